@@ -2,10 +2,9 @@
 use Rattle.rx_spec.proofs.Prelude.{common_steps, ◌≡◌, ℕ, zero, suc, ◌+◌, ◌<◌, ◌≤◌, ◌^◌, ⊎_elim, Bool, true, false}
 use Rattle.rx_spec.proofs.Prelude.{if◌then◌else◌, List, [], ◌∷◌, ◌++◌, length, get_or, refl, ap, sym, ◌∙◌, subst, arith}
 use Rattle.rx_spec.proofs.Prelude.{append-nil, filter, All, nat_le, slice_index, range_with_len, IsStrictlyIncreasing}
-use Rattle.rx_spec.proofs.Prelude.{cases_eq, cases_lt, ne_eqb, leb-true, leb-false, map-id, length_push}
-use Rattle.rx_spec.proofs.Prelude.{get_or_append_left, get_or_push, All-get_or, All-filter, All-from_get_or}
-use Rattle.rx_spec.proofs.Prelude.{length-range_with_len, get_or-range_with_len, IsStrictlyIncreasing-filter, class_by}
-use Rattle.rx_spec.proofs.Prelude.{column_by, representatives, least_exponent}
+use Rattle.rx_spec.proofs.Prelude.{cases_eq, leb-true, leb-false, map-id, length_push, get_or_append_left, All-get_or}
+use Rattle.rx_spec.proofs.Prelude.{All-filter, All-from_get_or, length-range_with_len, get_or-range_with_len}
+use Rattle.rx_spec.proofs.Prelude.{IsStrictlyIncreasing-filter, class_by, column_by, representatives, least_exponent}
 use Rattle.std.proofs.lemmas.List.Elements.{filter_passes}
 use Rattle.std.proofs.lemmas.List.FromFn.{filter_of_map_range_with_len_more}
 use Rattle.rx_spec.specs.Classes.{alphabet_by, begins_class, stride2_of}
@@ -31,7 +30,7 @@ module _ (ends : ℕ → Bool) where
   class_rises b = omega (arith, class_suc b)
 
   pub class_step : (b : ℕ) → class_by ends (suc b) ≤ class_by ends b + 1
-  class_step b = grind (arith, common_steps, by_test, class_moves, class_stays)
+  class_step b = grind (arith, common_steps, class_moves, class_stays)
 
   pub class_below : (a b : ℕ) → a ≤ b → class_by ends a ≤ class_by ends b
   class_below a zero h = grind (arith, common_steps)
@@ -74,10 +73,10 @@ module _ (ends : ℕ → Bool) where
   -- ---- columns
 
   pub column_of_byte : (b : ℕ) → b < 256 → column_by ends b ≡ class_by ends b
-  column_of_byte b h = grind (arith, common_steps, ne_eqb)
+  column_of_byte b h = grind (arith, common_steps)
 
   pub column_below : (unit : ℕ) → unit < 257 → column_by ends unit < alphabet_by ends
-  column_below unit h = grind (arith, common_steps, column_of_byte, class_below, cases_eq)
+  column_below unit h = grind (arith, common_steps, class_below)
 
   pub column_used : (column : ℕ) → column < alphabet_by ends
       → (unit : ℕ) × (unit < 257) × (column_by ends unit ≡ column)
@@ -115,7 +114,7 @@ module _ (ends : ℕ → Bool) where
     classes : (k : ℕ) → k < length bytes → class_by ends (get_or bytes k 0) ≡ k
 
   are_least : (b : ℕ) → AreLeast b (least_below ends (b + 1))
-  are_least zero = grind (arith, common_steps, least_more, class_zero)
+  are_least zero = grind (arith, common_steps, class_zero)
   are_least (suc b) =
       let before = are_least b in
       let one : suc b ≡ b + 1 = omega arith in
@@ -126,24 +125,10 @@ module _ (ends : ℕ → Bool) where
       (λ e. rw e (going b (least_below ends (b + 1)) e before))))
     where
       going : (b : ℕ) (bytes : List ℕ) → ends b ≡ false → AreLeast b bytes → AreLeast (suc b) (bytes ++ [])
-      going b bytes e h =
-          subst (AreLeast (suc b)) (sym (append-nil bytes))
-          record { count = (let c = h.count in omega (arith, class_stays ends b e)); classes = h.classes }
+      going b bytes e h = grind (arith, common_steps, append-nil, class_stays)
 
       begun : (b : ℕ) (bytes : List ℕ) → ends b ≡ true → AreLeast b bytes → AreLeast (suc b) (bytes ++ (suc b ∷ []))
-      begun b bytes e h = record {
-        count = (let c = h.count in omega (arith, class_moves ends b e, length_push bytes (suc b)));
-        classes = λ k l.
-            ⊎_elim
-            (λ (before : k < length bytes).
-            ap (class_by ends) (get_or_append_left bytes (suc b ∷ []) 0 k before) ∙ h.classes k before)
-            (λ (last : length bytes ≤ k).
-            let c = h.count in
-            let place : length bytes ≡ k = omega (arith, length_push bytes (suc b)) in
-            let number : class_by ends (suc b) ≡ k = omega (arith, class_moves ends b e) in
-            ap (class_by ends) (get_or_push bytes (suc b) 0 k place) ∙ number)
-            (cases_lt k (length bytes));
-      }
+      begun b bytes e h = grind (arith, common_steps, class_moves, length_push, class_by, get_or_append_left)
 
   pub representatives_counted : length (representatives ends) ≡ class_by ends 255 + 1
   representatives_counted = (are_least 255).count
@@ -158,7 +143,6 @@ module _ (ends : ℕ → Bool) where
     where
       bytes_rise : IsStrictlyIncreasing (range_with_len 0 256)
       bytes_rise k h =
-          let n = length-range_with_len 0 256 in
           omega (
             arith,
             get_or-range_with_len 0 256 k 0 (omega arith),
@@ -180,7 +164,7 @@ module _ (ends : ℕ → Bool) where
   -- none below it has its class
   begins_above : (b a : ℕ) → begins_class ends b ≡ true → class_by ends a ≡ class_by ends b → b ≤ a
   begins_above zero a begins same = omega arith
-  begins_above (suc b) a begins same = grind (arith, common_steps, class_moves, class_below, cases_lt)
+  begins_above (suc b) a begins same = grind (arith, common_steps, class_moves, class_below)
 
   pub representative_least : (k a : ℕ) → k < length (representatives ends) → class_by ends a ≡ k
       → slice_index (representatives ends) k ≤ a
@@ -212,33 +196,19 @@ unfolding least_exponent
 exponent_is len k zero = grind (arith, common_steps)
 exponent_is len k (suc more) =
     by_test (nat_le len (2 ^ k))
-    (λ e. rw e record {
-      from = omega arith;
-      upto = omega arith;
-      holds = λ h. leb-true len (2 ^ k) e;
-      least = λ j low high. absurd (omega arith);
-    })
+    (λ e. grind (arith, common_steps, leb-true))
     (λ e. rw e (later (exponent_is len (k + 1) more) (leb-false len (2 ^ k) e)))
   where
     later : IsExponent len (k + 1) more (least_exponent len (k + 1) more) → 2 ^ k < len
         → IsExponent len k (suc more) (least_exponent len (k + 1) more)
-    later h under = record {
-      from = (let low = h.from in omega arith);
-      upto = (let high = h.upto in omega arith);
-      holds = λ l. h.holds (omega arith);
-      least = λ j low high.
-          ⊎_elim
-          (λ (same : j ≡ k). subst (λ i. 2 ^ i < len) (sym same) under)
-          (λ (ne : j ≡ k → ⊥). h.least j (omega arith) high)
-          (cases_eq j k);
-    }
+    later h under = grind (arith, common_steps)
 
 -- the stride of an alphabet holds it, no lower power of two does, and its exponent is 1 to 9
 pub stride_holds : (len : ℕ) → len ≤ 512 → len ≤ 2 ^ stride2_of len
-stride_holds len small = grind (arith, common_steps, exponent_is, cases_lt)
+stride_holds len small = grind (arith, common_steps, exponent_is)
 
 pub stride_least : (len k : ℕ) → len ≤ 2 ^ k → stride2_of len ≤ k
-stride_least len k holds = grind (arith, common_steps, exponent_is, cases_lt)
+stride_least len k holds = grind (arith, common_steps, exponent_is)
 
 pub stride_within : (len : ℕ) → 2 ≤ len → (1 ≤ stride2_of len) × (stride2_of len ≤ 9)
-stride_within len two = grind (arith, common_steps, exponent_is, cases_eq)
+stride_within len two = grind (arith, common_steps, exponent_is)

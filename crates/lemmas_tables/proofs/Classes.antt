@@ -13,9 +13,8 @@ use Rattle.rx_spec.specs.States.{context_of_rows}
 use Rattle.rx_spec.specs.declared.Direction.{Direction}
 use Rattle.rx_spec.specs.declared.Look.{Look}
 use Rattle.rx_spec.specs.declared.MatchKind.{MatchKind}
-use Rattle.lemmas_tables.proofs.ClassNumbers.{none_ends, class_below, column_of_byte, class_of_all}
+use Rattle.lemmas_tables.proofs.ClassNumbers.{none_ends, class_below, class_of_all}
 use Rattle.lemmas_walks.proofs.Every.{flat_map-alike, every-weaker}
-use Rattle.lemmas_walks.proofs.Facts.{Cover, kept_before, kept_after, unit_knows}
 
 -- ---- what is the same of two bytes of one class
 
@@ -54,7 +53,7 @@ fact_alike false test a b h none = refl
 -- none of four tests, joined as they are for the facts of a byte
 none_of_four : (a b c d : Bool) → (a || b || c || d) ≡ false
     → (a ≡ false) × (b ≡ false) × (c ≡ false) × (d ≡ false)
-none_of_four a b c d e = grind (arith, common_steps, or_parts)
+none_of_four a b c d e = grind (arith, common_steps)
 
 abbrev ends_of_facts : ℕ → Facts → ℕ → (Bool × Bool × Bool × Bool)
 ends_of_facts t read x = (
@@ -108,13 +107,8 @@ alike_up nfa quit a b h none =
       rows = rows_alike t a b h nfa.rows (λ x low high. (each x low high).1);
     }
 
-turned_row : (t a b : ℕ) (row : Row) → RowAlike t a b row → RowAlike t b a row
-turned_row t a b (Row.Bytes set next) h = sym h
-turned_row t a b (Row.Look look next) h = sym h
-turned_row t a b _ h = tt
-
 turned : (nfa : Nfa) (quit a b : ℕ) → AreAlike nfa quit a b → AreAlike nfa quit b a
-turned nfa quit a b h = grind (arith, common_steps, every-weaker, turned_row)
+turned nfa quit a b h = grind (arith, common_steps, every-weaker)
 
 pub class_alike : (nfa : Nfa) (quit a b : ℕ)
     → class_by (ends_class nfa quit true) a ≡ class_by (ends_class nfa quit true) b → AreAlike nfa quit a b
@@ -151,15 +145,12 @@ row_of_any P fail [] q h = fail
 row_of_any P fail (row ∷ rows) zero h = h.0
 row_of_any P fail (row ∷ rows) (suc q) h = row_of_any P fail rows q h.1
 
-covers_itself : (k : Facts) → Cover k k
-covers_itself k = grind (arith, common_steps)
-
 -- an assertion that reads the same of two neighbours
 holds_alike : (direction : Direction) (look : Look) (last x y : Facts)
     → both (facts_read look) x ≡ both (facts_read look) y → holds_read direction look last x
     ≡ holds_read direction look last y
-holds_alike Direction.Forward look last x y e = grind (arith, common_steps, kept_after, covers_itself)
-holds_alike Direction.Reverse look last x y e = grind (arith, common_steps, kept_before, covers_itself)
+holds_alike Direction.Forward look last x y e = grind (arith, common_steps)
+holds_alike Direction.Reverse look last x y e = grind (arith, common_steps)
 
 -- tests of assertions that agree on those of a list of rows
 abbrev LookAlike : (Look → Bool) → (Look → Bool) → Row → Type 0
@@ -187,7 +178,7 @@ module _ {nfa : Nfa} {quit a b : ℕ} (byte_a : a < 256) (byte_b : b < 256) (ali
   facts_same : (read : Facts)
       → both read (facts_of nfa.line_terminator (Some a)) ≡ both read (facts_of nfa.line_terminator (Some b))
       → both read (unit_facts nfa.line_terminator a) ≡ both read (unit_facts nfa.line_terminator b)
-  facts_same read e = grind (arith, common_steps, unit_knows)
+  facts_same read e = grind (arith, common_steps)
 
   looks_same : (s : State) → Every (LookAlike (holds_before nfa a s) (holds_before nfa b s)) nfa.rows
   looks_same s = grind (arith, common_steps, every-weaker, holds_alike, facts_same)
@@ -214,7 +205,7 @@ module _ {nfa : Nfa} {quit a b : ℕ} (byte_a : a < 256) (byte_b : b < 256) (ali
 
   pub step_alike : (kind : MatchKind) (s : State) → step nfa kind s a ≡ step nfa kind s b
   unfolding step
-  step_alike kind s = search (rules, decided_same, flat_map-alike, target_same, context_same)
+  step_alike kind s = search (rules, decided_same, target_same, context_same)
 
 -- bytes that nothing tells apart lead every node to one node
 pub next_alike : (b : Build) (node : Node) {x y : ℕ} → x < 256 → y < 256 → AreAlike b.nfa b.quit x y
@@ -234,4 +225,4 @@ pub column_leads : (b : Build) (byte_classes : Bool) (node : Node) (x y : ℕ) �
     → column_by (ends_class b.nfa b.quit byte_classes) x ≡ column_by (ends_class b.nfa b.quit byte_classes) y
     → next_node b node x ≡ next_node b node y
 column_leads b byte_classes node x y below_x below_y same =
-    grind (arith, common_steps, cases_eq, class_leads, column_of_byte, class_below)
+    grind (arith, common_steps, cases_eq, class_leads, class_below)

@@ -1,9 +1,7 @@
 -- Rows and their ids: the one names the other, and those of a dense table are multiples of its stride.
-use Rattle.rx_spec.proofs.Prelude.{common_steps, ◌≡◌, ℕ, ◌*◌, ◌^◌, ◌<◌, ◌==◌, ◌⊎◌, Some, None, Bool, if◌then◌else◌}
-use Rattle.rx_spec.proofs.Prelude.{List, length, refl, ap, sym, ◌∙◌, ⊎_elim, arith, Contains, unwrap_or, nat_lt}
-use Rattle.rx_spec.proofs.Prelude.{position_or_len, ne_eqb, eq-eqb, lt-ltb, get_or_default, length-map-range_with_len}
+use Rattle.rx_spec.proofs.Prelude.{common_steps, ◌≡◌, ℕ, ◌*◌, ◌^◌, ◌<◌, ◌==◌, List, refl, ap, sym, ◌∙◌, arith, Contains}
+use Rattle.rx_spec.proofs.Prelude.{position_or_len, ne_eqb, eq-eqb, get_or_default, length-map-range_with_len}
 use Rattle.rx_spec.proofs.Prelude.{get_or-map-range_with_len, position_or_len_is, pow_pos, AreIds, id_of, row_of}
-use Rattle.std.proofs.lemmas.Bool.{cases_order}
 use Rattle.std.proofs.lemmas.List.Kept.{AllPairs-from_increasing}
 use Rattle.rx_spec.specs.Ids.{dense_ids}
 
@@ -13,14 +11,7 @@ pub id_apart : {size : ℕ} {ids : List ℕ} → AreIds size ids → (x y : ℕ)
 id_apart {size} {ids} are x y hx hy same =
     let n = are.count in
     let rises = AllPairs-from_increasing ids are.rising in
-    ⊎_elim
-    (λ (e : x ≡ y). e)
-    (λ (ne : (x < y) ⊎ (y < x)).
-    ⊎_elim
-    (λ (below : x < y). absurd (omega (arith, rises x y 0 below (omega arith))))
-    (λ (above : y < x). absurd (omega (arith, rises y x 0 above (omega arith))))
-    ne)
-    (cases_order x y)
+    grind (arith, common_steps)
 
 -- the row of a row's id
 pub row_of-id_of : {size : ℕ} {ids : List ℕ} → AreIds size ids → (row : ℕ) → row < size
@@ -33,14 +24,12 @@ row_of-id_of {size} {ids} are row h =
     position_or_len_is test ids row 0 (omega arith)
     (λ k low. ne_eqb (id_of ids k) id (λ same. (let e = id_apart are k row (omega arith) h same in omega arith)))
     (λ l. eq-eqb id id refl) in
-    ap (λ (k : ℕ). unwrap_or (if nat_lt k (length ids) then Some k else None) (length ids)) first
-    ∙ ap (λ (b : Bool). unwrap_or (if b then Some row else None) (length ids)) (lt-ltb row (length ids) (omega arith))
+    grind (arith, common_steps)
 
 -- the id of an id's row
 pub id_of-row_of : {size : ℕ} {ids : List ℕ} → AreIds size ids → (id : ℕ) → Contains ids id
     → id_of ids (row_of ids id) ≡ id
 id_of-row_of {size} {ids} are id (k, h, e) =
-    let n = are.count in
     let there : id_of ids k ≡ id = get_or_default ids k 0 id h ∙ e in
     ap (λ x. id_of ids (row_of ids x)) (sym there) ∙ ap (id_of ids) (row_of-id_of are k (omega arith)) ∙ there
 

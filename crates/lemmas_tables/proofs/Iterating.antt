@@ -1,8 +1,8 @@
 -- The matches one after another: they rise, and no bound cuts anything off.
 use Rattle.rx_spec.proofs.Prelude.{common_steps, ◌≡◌, ℕ, zero, suc, ◌+◌, ◌-◌, ◌<◌, ◌≤◌, true, false, Option, Some, None}
 use Rattle.rx_spec.proofs.Prelude.{List, [], refl, ap, sym, ◌∙◌, subst, arith, Ok, Err, All, AllPairs, lt-ltb, eq-eqb}
-use Rattle.rx_spec.proofs.Prelude.{and_from, cases_eq, All-nil, All-cons, All-weaker, Query, Match, is_done, Answer}
-use Rattle.rx_spec.proofs.Prelude.{is_repeat, unless_repeat, FoundMatches, and_then, iterate_from, iterate}
+use Rattle.rx_spec.proofs.Prelude.{and_from, cases_eq, All-weaker, Query, Match, is_done, Answer, is_repeat}
+use Rattle.rx_spec.proofs.Prelude.{unless_repeat, FoundMatches, and_then, iterate_from, iterate}
 use Rattle.std.proofs.lemmas.List.Kept.{AllPairs-cons}
 use Rattle.lemmas_walks.proofs.Firsts.{by_test}
 use Rattle.lemmas_walks.proofs.FoundLaws.{and_then-same}
@@ -85,7 +85,6 @@ module _ {search : Query → Answer} (orderly : IsOrderly search) where
       turn_alike n (suc n) q last_end
       (λ m is.
       let low = is.lies.from in
-      let mid = is.lies.ordered in
       one_more_after n (from_end q m) (omega arith))
 
   many_more : (more : ℕ) (q : Query) (last_end : Option ℕ)
@@ -127,36 +126,21 @@ module _ {search : Query → Answer} (orderly : IsOrderly search) where
       (by_answer (told_next search q last_end) refl (λ m. matches_are n (from_end q m) (Some m.end)))
     where
       after : (m y : Match) → IsNext q last_end m → IsNext (from_end q m) (Some m.end) y → IsNext q last_end y
-      after m y is next =
-          let low = is.lies.from in
-          let mid = is.lies.ordered in
-          let start = next.lies.from in
-          let ordered = next.lies.ordered in
-          let high = next.lies.upto in
-          let later = next.later refl in
-          record {
-            lies = record { from = omega arith; ordered = ordered; upto = high };
-            later = λ same. omega arith;
-          }
+      after m y is next = grind (arith, common_steps)
 
       by_answer : (answer : Answer) → told_next search q last_end ≡ answer
           → ((m : Match) → AreMatches (from_end q m) (Some m.end)
           (iterate_from search n (from_end q m) (Some m.end)).matches)
           → AreMatches q last_end
           (and_then answer (λ found. iterate_from search n (from_end q found) (Some found.end))).matches
-      by_answer (Ok None) e rest =
-          record { each = All-nil (IsNext q last_end); rising = λ i j d h k. absurd (omega arith) }
-      by_answer (Err error) e rest =
-          record { each = All-nil (IsNext q last_end); rising = λ i j d h k. absurd (omega arith) }
+      by_answer (Ok None) e rest = grind (arith, common_steps)
+      by_answer (Err error) e rest = grind (arith, common_steps)
       by_answer (Ok (Some m)) e rest =
           let is = next_is q last_end m e in
           let others = (iterate_from search n (from_end q m) (Some m.end)).matches in
           let next = rest m in
           record {
-            each =
-                All-cons (IsNext q last_end) m others is
-                (All-weaker (IsNext (from_end q m) (Some m.end)) (IsNext q last_end) (λ y h. after m y is h) others
-                next.each);
+            each = grind (arith, common_steps);
             rising =
                 AllPairs-cons IsPast m others
                 (All-weaker (IsNext (from_end q m) (Some m.end)) (IsPast m) (λ y h. (h.lies.from, h.later refl)) others

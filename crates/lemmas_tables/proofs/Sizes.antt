@@ -2,9 +2,8 @@
 -- reached exactly where it is passed by all.
 use Rattle.rx_spec.proofs.Prelude.{rules, ◌≡◌, ◌≢◌, ℕ, ◌<◌, ◌≤◌, ◌↔◌, ◌&&◌, Bool, true, false, if◌then◌else◌, List, []}
 use Rattle.rx_spec.proofs.Prelude.{◌∷◌, length, map, refl, ap, sym, subst, arith, common_steps, Contains, AllPairs}
-use Rattle.rx_spec.proofs.Prelude.{sum_by, lt-ltb, ltb-true, sum_by-cons, mul-le, State, Build, Node, dead, AreReached}
-use Rattle.rx_spec.proofs.Prelude.{determinizer_size, label_total, table_size, last_id, sparse_size, sparse_bound}
-use Rattle.rx_spec.proofs.Prelude.{Exceeds}
+use Rattle.rx_spec.proofs.Prelude.{sum_by, sum_by-cons, State, Build, Node, dead, AreReached, determinizer_size}
+use Rattle.rx_spec.proofs.Prelude.{label_total, table_size, last_id, sparse_size, sparse_bound, Exceeds}
 use Rattle.std.proofs.lemmas.List.Sums.{sum_by-le-sum_by}
 use Rattle.rx_spec.specs.Sizes.{state_size, leaving_bytes, is_skippable_node, needle_count, sparse_row_size}
 use Rattle.rx_spec.specs.Causes.{Limits, sparse_length}
@@ -26,18 +25,18 @@ pub labels_grow : OnlyGrows label_total
 labels_grow = sum_by-within (λ s. length s.label)
 
 pub table_grows : (stride entries : ℕ) → OnlyGrows (λ states. table_size (length states) stride entries)
-table_grows stride entries xs ys apart within = grind (arith, common_steps, count_grows, mul-le)
+table_grows stride entries xs ys apart within = grind (arith, common_steps, count_grows)
 
 pub ids_grow : (stride : ℕ) → OnlyGrows (λ states. last_id (length states) stride)
-ids_grow stride xs ys apart within = grind (arith, common_steps, count_grows, mul-le)
+ids_grow stride xs ys apart within = grind (arith, common_steps, count_grows)
 
 pub bound_grows : (b : Build) (byte_classes : Bool) → OnlyGrows (sparse_bound b byte_classes)
-bound_grows b byte_classes xs ys apart within = grind (arith, common_steps, count_grows, labels_grow, mul-le)
+bound_grows b byte_classes xs ys apart within = grind (arith, common_steps, count_grows, labels_grow)
 
 module _ (b : Build) (byte_classes accelerate : Bool) where
   sum_by-map : {X Y : Type 0} (f : Y → ℕ) (g : X → Y) (xs : List X) → sum_by f (map g xs) ≡ sum_by (λ x. f (g x)) xs
   sum_by-map f g [] = refl
-  sum_by-map f g (x ∷ xs) = grind (arith, common_steps, sum_by-cons)
+  sum_by-map f g (x ∷ xs) = grind (arith, common_steps)
 
   -- a row has needles only where there is a state
   abbrev needles_where : Node → Bool → ℕ
@@ -45,7 +44,7 @@ module _ (b : Build) (byte_classes accelerate : Bool) where
 
   needles_grow : (xs ys : List State) → length xs ≤ length ys → (node : Node)
       → needle_count b accelerate xs node ≤ needle_count b accelerate ys node
-  needles_grow xs ys count node = grind (arith, common_steps, by_test, ltb-true, lt-ltb)
+  needles_grow xs ys count node = grind (arith, common_steps)
 
   row_grows : (xs ys : List State) → length xs ≤ length ys → (node : Node)
       → sparse_row_size b byte_classes accelerate xs node ≤ sparse_row_size b byte_classes accelerate ys node
@@ -59,18 +58,9 @@ module _ (b : Build) (byte_classes accelerate : Bool) where
       let count = count_grows xs ys apart within in
       let same : sum_by f (dead ∷ Node.Quit ∷ map run xs) ≤ sum_by g (dead ∷ Node.Quit ∷ map run xs) =
       sum_by-le-sum_by f g (dead ∷ Node.Quit ∷ map run xs) (row_grows xs ys count) in
-      let more : sum_by (λ s. g (run s)) xs ≤ sum_by (λ s. g (run s)) ys =
-      sum_by-within (λ s. g (run s)) xs ys apart within in
+      let more : sum_by (λ s. g (run s)) xs ≤ sum_by (λ s. g (run s)) ys = grind (arith, common_steps, sum_by-within) in
       let all : sum_by g (dead ∷ Node.Quit ∷ map run xs) ≤ sum_by g (dead ∷ Node.Quit ∷ map run ys) =
-      omega (
-        arith,
-        sum_by-cons g dead (Node.Quit ∷ map run xs),
-        sum_by-cons g Node.Quit (map run xs),
-        sum_by-cons g dead (Node.Quit ∷ map run ys),
-        sum_by-cons g Node.Quit (map run ys),
-        sum_by-map g run xs,
-        sum_by-map g run ys,
-      ) in
+      grind (arith, common_steps, sum_by-cons, dead, sum_by-map) in
       omega arith
 
 pub length_grows : (l : Limits) (b : Build) → OnlyGrows (sparse_length l b)

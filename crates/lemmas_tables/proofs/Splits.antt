@@ -1,11 +1,10 @@
 -- Matches that split a character are passed over without a bound: from the limit on, no number of turns cuts
 -- anything off.
-use Rattle.rx_spec.proofs.Prelude.{common_steps, ◌≡◌, ℕ, zero, suc, ◌+◌, ◌-◌, ◌≤◌, true, false, Some, None, refl, ap}
-use Rattle.rx_spec.proofs.Prelude.{sym, ◌∙◌, arith, Ok, Err, lt-ltb, eqb-false, or_right, Query, is_done, Machine}
-use Rattle.rx_spec.proofs.Prelude.{Settings, HalfAnswer, half_search, narrower, is_narrowest, unless_split, skip_splits}
-use Rattle.rx_spec.proofs.Prelude.{split_limit, skips_splits, half_unsplit, Table}
+use Rattle.rx_spec.proofs.Prelude.{common_steps, ◌≡◌, ℕ, zero, suc, ◌+◌, ◌-◌, ◌≤◌, true, false, None, refl, ap, sym}
+use Rattle.rx_spec.proofs.Prelude.{◌∙◌, arith, Ok, eqb-false, Query, is_done, Machine, Settings, HalfAnswer}
+use Rattle.rx_spec.proofs.Prelude.{half_search, narrower, is_narrowest, unless_split, skip_splits, split_limit}
+use Rattle.rx_spec.proofs.Prelude.{skips_splits, half_unsplit, Table}
 use Rattle.rx_spec.specs.declared.Direction.{Direction}
-use Rattle.lemmas_walks.proofs.Firsts.{by_test}
 
 -- a search that finds nothing where the span has nothing more to give
 abbrev pub NoneWhenDone : (Query → HalfAnswer) → Type 0
@@ -16,13 +15,6 @@ pub half_when_done : {R : Type 0} (m : Machine R) (s : Settings) (direction : Di
 half_when_done m s direction q done = rw done refl
 
 module _ (search : Query → HalfAnswer) (none : NoneWhenDone search) where
-  -- where there is no narrower query, it isn't asked
-  no_more : (direction : Direction) (q : Query) (answer again other : HalfAnswer) → is_narrowest direction q ≡ true
-      → unless_split direction q answer again ≡ unless_split direction q answer other
-  no_more direction q (Ok None) again other e = refl
-  no_more direction q (Err error) again other e = refl
-  no_more direction q (Ok (Some half_match)) again other e = grind (arith, common_steps, or_right)
-
   turn : (direction : Direction) (n : ℕ) (q : Query)
       → skip_splits search direction (suc n) q
       ≡ unless_split direction q (search q) (skip_splits search direction n (narrower direction q))
@@ -38,7 +30,7 @@ module _ (search : Query → HalfAnswer) (none : NoneWhenDone search) where
       → (is_narrowest direction q ≡ false
       → skip_splits search direction n (narrower direction q) ≡ skip_splits search direction m (narrower direction q))
       → skip_splits search direction (suc n) q ≡ skip_splits search direction (suc m) q
-  turn_alike direction n m q others = grind (arith, common_steps, turn, by_test, no_more)
+  turn_alike direction n m q others = grind (arith, common_steps, turn)
 
   -- a narrower query has a lower limit
   limit_falls : (direction : Direction) (q : Query) (n : ℕ) → is_narrowest direction q ≡ false → split_limit q ≤ suc n
@@ -48,7 +40,7 @@ module _ (search : Query → HalfAnswer) (none : NoneWhenDone search) where
 
   one_more : (direction : Direction) (n : ℕ) (q : Query) → split_limit q ≤ n
       → skip_splits search direction n q ≡ skip_splits search direction (suc n) q
-  one_more direction zero q h = grind (arith, common_steps, lt-ltb, no_turn, turn)
+  one_more direction zero q h = grind (arith, common_steps, no_turn, turn)
   one_more direction (suc n) q h =
       turn_alike direction n (suc n) q
       (λ e. one_more direction n (narrower direction q) (limit_falls direction q n e h))
@@ -73,11 +65,11 @@ module _ (search : Query → HalfAnswer) (none : NoneWhenDone search) where
       → skip_splits search direction (split_limit q) q
       ≡ unless_split direction q (search q)
       (skip_splits search direction (split_limit (narrower direction q)) (narrower direction q))
-  splits_again direction q = grind (arith, common_steps, limit_falls, one_more, turn, by_test, no_more, splits_uncut)
+  splits_again direction q = grind (arith, common_steps, limit_falls, one_more, turn)
 
 -- the same of a table that passes them over
 pub unsplit_again : (t : Table) (direction : Direction) (q : Query) → skips_splits t ≡ true
     → half_unsplit t direction q
     ≡ unless_split direction q (half_search t.machine t.settings direction q)
     (half_unsplit t direction (narrower direction q))
-unsplit_again t direction q skips = grind (arith, common_steps, splits_again, half_when_done)
+unsplit_again t direction q skips = grind (arith, common_steps, splits_again)

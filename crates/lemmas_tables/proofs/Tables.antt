@@ -1,21 +1,16 @@
 -- Tables that are the same where they have a meaning: one is as sound as the other, and they answer the same.
 -- And what needles say: between them each byte leads an accelerated row to itself.
-use Rattle.rx_spec.proofs.Prelude.{◌≡◌, ◌≢◌, ℕ, ◌-◌, ◌<◌, ◌==◌, ◌||◌, ◌↔◌, Bool, true, false, not, if◌then◌else◌}
-use Rattle.rx_spec.proofs.Prelude.{Option, Some, None, List, [], ◌∷◌, length, refl, ap, ap₂, sym, ◌∙◌, subst, arith}
-use Rattle.rx_spec.proofs.Prelude.{common_steps, Contains, Ok, range_with_len, IsStrictlyIncreasing, eqb-true, ne_eqb}
-use Rattle.rx_spec.proofs.Prelude.{not-true, eqb-false, All-head, All-tail, IsStrictlyIncreasing-filter, AreBytes}
-use Rattle.rx_spec.proofs.Prelude.{Anchored, Query, HalfMatch, is_done, Label, Machine, IsWord, run, Settings}
-use Rattle.rx_spec.proofs.Prelude.{StartError, start_error, start_row, start_context, Table, IsTable, IsSound, is_match}
-use Rattle.rx_spec.proofs.Prelude.{is_match_label, leaving, AreSame, HalfAnswer, units_of, beside, first_offset}
-use Rattle.rx_spec.proofs.Prelude.{next_offset, last_match, at_label, walk, whole_walk, half_search, OverlappingMatches}
-use Rattle.rx_spec.proofs.Prelude.{Ending, none_left, at_item_label, overlapping_walk, whole_overlapping_walk}
-use Rattle.rx_spec.proofs.Prelude.{overlapping}
+use Rattle.rx_spec.proofs.Prelude.{◌≡◌, ◌≢◌, ℕ, ◌-◌, ◌<◌, ◌==◌, ◌↔◌, Bool, true, false, not, if◌then◌else◌, Option}
+use Rattle.rx_spec.proofs.Prelude.{Some, None, List, [], ◌∷◌, refl, ap, sym, ◌∙◌, subst, arith, common_steps, Contains}
+use Rattle.rx_spec.proofs.Prelude.{Ok, range_with_len, IsStrictlyIncreasing, eqb-true, ne_eqb, not-true, eqb-false}
+use Rattle.rx_spec.proofs.Prelude.{All-head, All-tail, IsStrictlyIncreasing-filter, AreBytes, Anchored, Query}
+use Rattle.rx_spec.proofs.Prelude.{HalfMatch, Label, Machine, IsWord, run, Settings, start_row, start_context, Table}
+use Rattle.rx_spec.proofs.Prelude.{IsTable, IsSound, is_match, is_match_label, leaving, AreSame, HalfAnswer, units_of}
+use Rattle.rx_spec.proofs.Prelude.{beside, first_offset, next_offset, last_match, at_label, walk, half_search}
+use Rattle.rx_spec.proofs.Prelude.{OverlappingMatches, Ending, none_left, at_item_label, overlapping_walk, overlapping}
 use Rattle.std.proofs.lemmas.Bool.{not_from_false}
 use Rattle.rx_spec.specs.Tables.{SameSettings}
-use Rattle.rx_spec.specs.HalfSearches.{from_start}
-use Rattle.rx_spec.specs.Overlapping.{overlapping_from}
 use Rattle.rx_spec.specs.declared.Direction.{Direction}
-use Rattle.rx_spec.specs.declared.Start.{Start}
 use Rattle.lemmas_tables.proofs.Filters.{filter_tested, filter_keeps, filter_alike, range_has, every_in_range}
 use Rattle.lemmas_tables.proofs.Filters.{range_rises}
 use Rattle.lemmas_walks.proofs.Words.{run-nil, run-cons, IsWord-head, IsWord-tail}
@@ -41,10 +36,10 @@ row_moved : {t u : Table} → AreSame t u → (row : ℕ) → row < u.size → r
 row_moved same row h = let e = same.size in omega arith
 
 pub AreSame-sym : {t u : Table} → AreSame t u → AreSame u t
-AreSame-sym same = grind (arith, common_steps, row_moved)
+AreSame-sym same = grind (arith, common_steps)
 
 pub AreSame-trans : {t u v : Table} → AreSame t u → AreSame u v → AreSame t v
-AreSame-trans {t} {u} {v} a b = grind (arith, common_steps, row_moved)
+AreSame-trans {t} {u} {v} a b = grind (arith, common_steps)
 
 -- ---- tables and soundness
 
@@ -53,14 +48,10 @@ module _ {t u : Table} (same : AreSame t u) where
   table_same is = record {
     two = (let e = same.size in let two = is.two in omega arith);
     entries = λ mode start.
-        omega (arith, same.size, same.entries mode start, is.entries mode start);
-    universal_unanchored = λ row e.
-        omega (arith, same.size, is.universal_unanchored row (same.universal_unanchored ∙ e));
-    universal_anchored = λ row e.
-        omega (arith, same.size, is.universal_anchored row (same.universal_anchored ∙ e));
-    nexts = λ row unit h k.
-        let below = row_moved same row h in
-        omega (arith, same.size, same.nexts row unit below k, is.nexts row unit below k);
+        omega (arith, same.entries mode start);
+    universal_unanchored = λ row e. grind (arith, common_steps);
+    universal_anchored = λ row e. grind (arith, common_steps);
+    nexts = λ row unit h k. grind (arith, common_steps, row_moved);
     past_last = λ n k start e h.
         sym (same.entries (Anchored.Pattern k) start)
         ∙ is.past_last n k start (same.settings.pattern_starts ∙ e) h;
@@ -69,9 +60,7 @@ module _ {t u : Table} (same : AreSame t u) where
     dead_stays = λ unit h. sym (same.nexts 0 unit (first is) h) ∙ is.dead_stays unit h;
     quit_label = sym (same.labels 1 (second is)) ∙ is.quit_label;
     quit_ends = λ unit h. sym (same.nexts 1 unit (second is) h) ∙ is.quit_ends unit h;
-    quit_only = λ row h e.
-        let below = row_moved same row h in
-        is.quit_only row below (same.labels row below ∙ e);
+    quit_only = λ row h e. grind (arith, common_steps, row_moved);
     lists = λ row h e. let below = row_moved same row h in is.lists row below (same.labels row below ∙ e);
   }
     where
@@ -91,45 +80,22 @@ module _ {t u : Table} (same : AreSame t u) where
   pub sound_same : IsSound t → IsSound u
   sound_same sound = record {
     is_table = table_same sound.is_table;
-    eoi_goes_on = λ row h e.
-        let below = row_moved same row h in
-        sound.eoi_goes_on row below (same.nexts row 256 below (omega arith) ∙ e);
+    eoi_goes_on = λ row h e. grind (arith, common_steps, row_moved);
     starts_plain = λ mode start.
         ap u.machine.label (sym (same.entries mode start))
         ∙ sym (same.labels (t.machine.entry mode start) (sound.is_table.entries mode start))
         ∙ sound.starts_plain mode start;
     patterns = λ row ks k h e c.
         let below = row_moved same row h in
-        omega (arith, same.pattern_len, sound.patterns row ks k below (same.labels row below ∙ e) c);
+        omega (arith, sound.patterns row ks k below (same.labels row below ∙ e) c);
     needles = λ row h e.
         let below = row_moved same row h in
         sym (same.needles row below) ∙ sound.needles row below (same.accelerated row below ∙ e)
         ∙ leaving_same row below;
-    some_needle = λ row h e.
-        let below = row_moved same row h in
-        omega (
-          arith,
-          ap length (same.needles row below),
-          sound.some_needle row below (same.accelerated row below ∙ e),
-        );
-    few_needles = λ row h e.
-        let below = row_moved same row h in
-        omega (
-          arith,
-          ap length (same.needles row below),
-          sound.few_needles row below (same.accelerated row below ∙ e),
-        );
-    no_needle = λ row h e.
-        let below = row_moved same row h in
-        sym (same.needles row below) ∙ sound.no_needle row below (same.accelerated row below ∙ e);
-    special = λ row h.
-        let below = row_moved same row h in
-        let kinds = λ (match accelerated start : Bool).
-        (row == 0) || (row == 1) || match || accelerated || start in
-        sym (same.specials row below) ∙ sound.special row below
-        ∙ ap (λ (label : Label). kinds (is_match_label label) (t.is_accelerated row) (t.is_start row))
-        (same.labels row below)
-        ∙ ap₂ (kinds (is_match u row)) (same.accelerated row below) (same.starts row below);
+    some_needle = λ row h e. grind (arith, common_steps, row_moved);
+    few_needles = λ row h e. grind (arith, common_steps, row_moved);
+    no_needle = λ row h e. grind (arith, common_steps, row_moved);
+    special = λ row h. grind (arith, common_steps, row_moved, is_match_label, is_match);
   }
 
 -- ---- they answer the same
@@ -193,19 +159,6 @@ module _ {t u : Table} (is : IsTable t) (same : AreSame t u) where
       ∙ ap (λ r. go (u.machine.label r) (u.machine.is_dead r) (overlapping_walk u.machine direction r later units))
       (same.nexts row unit h unit_fits)
 
-  -- a start is refused alike,
-  error_same : (o : Option ℕ) (mode : Anchored) → ((byte : ℕ) → o ≡ Some byte → byte < 256)
-      → start_error t.settings o mode ≡ start_error u.settings o mode
-  error_same o mode bytes = grind (arith, common_steps)
-
-  -- and begins at one row
-  row_same : (o : Option ℕ) (mode : Anchored) → ((byte : ℕ) → o ≡ Some byte → byte < 256)
-      → start_row t.machine t.settings o mode ≡ start_row u.machine u.settings o mode
-  row_same None mode bytes = same.entries mode Start.Text
-  row_same (Some byte) mode bytes =
-      ap (t.machine.entry mode) (same.settings.start_of_byte byte (bytes byte refl))
-      ∙ same.entries mode (u.settings.start_of_byte byte)
-
   pub half_same : (direction : Direction) (q : Query) → AreBytes q.haystack
       → half_search t.machine t.settings direction q ≡ half_search u.machine u.settings direction q
   half_same direction q bytes =
@@ -216,10 +169,7 @@ module _ {t u : Table} (is : IsTable t) (same : AreSame t u) where
       let walked =
       walk_same direction q.earliest place (units_of direction q)
       (is.entries q.mode (start_context t.settings o)) (units_word direction q bytes) in
-      let answered = walked ∙ ap (whole_walk u.machine direction q) (row_same o q.mode below) in
-      ap₂ (λ (error : Option StartError) (answer : HalfAnswer).
-      if is_done q then Ok None else from_start direction q error answer)
-      (error_same o q.mode below) answered
+      grind (arith, common_steps)
 
   pub overlapping_same : (direction : Direction) (q : Query) → AreBytes q.haystack
       → overlapping t.machine t.settings direction q ≡ overlapping u.machine u.settings direction q
@@ -230,10 +180,7 @@ module _ {t u : Table} (is : IsTable t) (same : AreSame t u) where
       let walked =
       told_same direction row (first_offset direction q) (units_of direction q)
       (is.entries q.mode (start_context t.settings o)) (units_word direction q bytes) in
-      let told = walked ∙ ap (whole_overlapping_walk u.machine direction q) (row_same o q.mode below) in
-      ap₂ (λ (error : Option StartError) (matches : OverlappingMatches).
-      if is_done q then none_left Ending.Ended else overlapping_from direction q error matches)
-      (error_same o q.mode below) told
+      grind (arith, common_steps)
 
 -- ---- needles
 
@@ -282,4 +229,4 @@ leaving_rises t row =
 -- a match row isn't dead
 pub match_alive : {t : Table} → IsTable t → (row : ℕ) {ks : List ℕ} → row < t.size
     → t.machine.label row ≡ Label.Matches ks → t.machine.is_dead row ≡ false
-match_alive {t} is row {ks} below label = grind (arith, common_steps, ne_eqb)
+match_alive {t} is row {ks} below label = grind (arith, common_steps)

@@ -1,11 +1,10 @@
 -- What a half search tells lies in the span of its query, and so where splits are passed over.
-use Rattle.rx_spec.proofs.Prelude.{rules, ◌≡◌, ℕ, zero, suc, ◌≤◌, ◌||◌, Bool, true, false, if◌then◌else◌, Option, Some}
-use Rattle.rx_spec.proofs.Prelude.{None, refl, ◌∙◌, arith, common_steps, Ok, Err, Query, HalfMatch, is_anchored}
-use Rattle.rx_spec.proofs.Prelude.{Machine, Settings, HalfAnswer, half_search, is_split, narrower, is_narrowest}
-use Rattle.rx_spec.proofs.Prelude.{unless_split, skip_splits, half_unsplit, Table}
+use Rattle.rx_spec.proofs.Prelude.{rules, ◌≡◌, ℕ, zero, suc, ◌≤◌, Bool, true, false, if◌then◌else◌, Some, None, refl}
+use Rattle.rx_spec.proofs.Prelude.{◌∙◌, arith, common_steps, Ok, Err, Query, HalfMatch, Machine, Settings, HalfAnswer}
+use Rattle.rx_spec.proofs.Prelude.{half_search, narrower, unless_split, skip_splits, half_unsplit, Table}
 use Rattle.rx_spec.specs.declared.Direction.{Direction}
 use Rattle.lemmas_walks.proofs.WalkBounds.{half_in_span}
-use Rattle.lemmas_tables.proofs.Splits.{NoneWhenDone, half_when_done}
+use Rattle.lemmas_tables.proofs.Splits.{NoneWhenDone}
 
 -- an offset that a query's span has
 pub record IsIn (q : Query) (h : HalfMatch) : Type 0 where
@@ -15,9 +14,6 @@ pub record IsIn (q : Query) (h : HalfMatch) : Type 0 where
 -- a search that tells no other
 abbrev pub TellsWithin : (Query → HalfAnswer) → Type 0
 TellsWithin search = (q : Query) (h : HalfMatch) → search q ≡ Ok (Some h) → IsIn q h
-
-some_told : {x y : Option HalfMatch} → Path HalfAnswer (Ok x) (Ok y) → x ≡ y
-some_told e = cc
 
 pub half_within : {R : Type 0} (m : Machine R) (s : Settings) (direction : Direction)
     → TellsWithin (half_search m s direction)
@@ -32,7 +28,7 @@ module _ (search : Query → HalfAnswer) (direction : Direction) where
 
   pub splits_within : TellsWithin search → (n : ℕ) → TellsWithin (skip_splits search direction n)
   unfolding skip_splits
-  splits_within within zero q h e = grind (arith, common_steps, some_told)
+  splits_within within zero q h e = grind (arith, common_steps)
   splits_within within (suc n) q h e =
       by_answer (search q) refl e (λ again. wider direction q h (splits_within within n (narrower direction q) h again))
     where
@@ -41,8 +37,7 @@ module _ (search : Query → HalfAnswer) (direction : Direction) where
           → (skip_splits search direction n (narrower direction q) ≡ Ok (Some h) → IsIn q h) → IsIn q h
       by_answer (Ok None) is e others = absurd (cc)
       by_answer (Err error) is e others = absurd (cc)
-      by_answer (Ok (Some g)) is e others =
-          by_split (is_split q.haystack g.offset) (is_anchored q.mode || is_narrowest direction q) e
+      by_answer (Ok (Some g)) is e others = grind (arith, common_steps, by_split)
         where
           by_split : (splits last : Bool)
               → (if splits
@@ -62,4 +57,4 @@ pub unsplit_within : (t : Table) (direction : Direction) → TellsWithin (half_u
 unsplit_within t direction q h e = search (rules, half_within, splits_within)
 
 pub unsplit_when_done : (t : Table) (direction : Direction) → NoneWhenDone (half_unsplit t direction)
-unsplit_when_done t direction q done = grind (arith, common_steps, half_when_done, splits_when_done)
+unsplit_when_done t direction q done = grind (arith, common_steps, splits_when_done)

@@ -154,9 +154,7 @@ fresh_append seen (z ∷ zs) ys =
   where
     again : (z : ℕ) (zs seen : List ℕ) → was seen z ≡ true → (x : ℕ) → was ((z ∷ zs) ++ seen) x ≡ was (zs ++ seen) x
     again z zs seen e x =
-        by_test (x == z) (λ (q : (x == z) ≡ true). let same : x ≡ z = eqb-true x z q in
-        let there : was seen x ≡ true = subst (λ y. was seen y ≡ true) (sym same) e in
-        rw (q, was_append, there) (sym (or-true (was zs x))))
+        by_test (x == z) (λ (q : (x == z) ≡ true). grind (arith, common_steps, eqb-true, was_append, or-true))
         (λ (q : (x == z) ≡ false). rw q refl)
 
     moved_in : (z : ℕ) (zs seen : List ℕ) → (x : ℕ) → was ((z ∷ zs) ++ seen) x ≡ was (zs ++ (z ∷ seen)) x

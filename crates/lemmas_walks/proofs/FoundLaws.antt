@@ -1,6 +1,6 @@
 -- What is found: the least start, there the lowest pattern, and its first end.
 use Rattle.rx_spec.proofs.Prelude.{common_steps, [], ◌≡◌, ℕ, ◌+◌, ◌-◌, ◌<◌, ◌≤◌, ⊎_elim, Bool, true, false, Option}
-use Rattle.rx_spec.proofs.Prelude.{Some, None, List, ◌∷◌, Ok, Err, length, refl, ap, sym, ◌∙◌, subst, arith, le-leb}
+use Rattle.rx_spec.proofs.Prelude.{Some, None, List, ◌∷◌, Ok, Err, length, refl, sym, ◌∙◌, subst, arith, le-leb}
 use Rattle.rx_spec.proofs.Prelude.{slice_get, Contains, find, nat_le, option_and_then, range_with_len, Expression, ends}
 use Rattle.rx_spec.proofs.Prelude.{Query, Match, reading, admitted, first_of, end_within, candidate, found}
 use Rattle.rx_spec.proofs.Prelude.{FoundMatches, and_then, Answer}
@@ -12,8 +12,7 @@ use Rattle.lemmas_walks.proofs.Ranges.{first_in_range, none_in_range}
 pub find_is : (p : ℕ → Bool) (xs : List ℕ) (x : ℕ) → find p xs ≡ Some x → Contains xs x × (p x ≡ true)
 find_is p [] x e = absurd (cc)
 find_is p (y ∷ ys) x e = by_test (p y)
-    (λ t. let same : y ≡ x = some_same y x (sym (rw t refl) ∙ e) in
-    ((0, omega arith, same), subst (λ z. p z ≡ true) same t))
+    (λ t. grind (arith, common_steps))
     (λ f. let rest = find_is p ys x (sym (rw f refl) ∙ e) in (Contains-there y ys x rest.0, rest.1))
   where
     some_same : (a b : ℕ) → Some a ≡ Some b → a ≡ b
@@ -59,8 +58,7 @@ module _ (es : List Expression) (t : ℕ) (q : Query) (p k : ℕ) where
       let all = ends (reading Direction.Forward t q.haystack) e p in
       let end = find_some (λ i. nat_le i q.end) all j m (le-leb j q.end within) in
       let is : candidate es t q p k ≡ Some (record { pattern = k; start = p; end = end.0 }) =
-      candidate_in es t q p k a ∙ ap (option_and_then (ending es t q p k)) g
-      ∙ ap (option_map (λ i. record { pattern = k; start = p; end = i })) end.1 in
+      grind (arith, common_steps, candidate_in, option_and_then) in
       some_none (record { pattern = k; start = p; end = end.0 }) (sym is ∙ c)
     where
       some_none : (hit : Match) → Some hit ≡ None → ⊥
@@ -91,8 +89,7 @@ is_found es t q hit e =
     let same_place : p ≡ hit.start = sym m.start in
     let same_pattern : k ≡ hit.pattern = sym m.pattern in
     record {
-      matches =
-          subst (λ x. Matches es t q x hit.pattern hit) same_place (subst (λ x. Matches es t q p x hit) same_pattern m);
+      matches = grind (arith, common_steps);
       low = omega arith;
       high = omega arith;
       pattern_low = omega arith;

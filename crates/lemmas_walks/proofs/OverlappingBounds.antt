@@ -1,6 +1,6 @@
 -- Where the answers of an overlapping search come from, as `WalkBounds` says it of a half search.
 use Rattle.rx_spec.proofs.Prelude.{[], arith, rules, ◌≡◌, ℕ, ◌≤◌, ◌⊎◌, inr, ⊎_elim, Bool, if◌then◌else◌, Some, List}
-use Rattle.rx_spec.proofs.Prelude.{◌∷◌, refl, ap, sym, ◌∙◌, subst, common_steps, Contains, Query, HalfMatch, MatchError}
+use Rattle.rx_spec.proofs.Prelude.{◌∷◌, ap, sym, ◌∙◌, subst, common_steps, Contains, Query, HalfMatch, MatchError}
 use Rattle.rx_spec.proofs.Prelude.{Label, Machine, Settings, StartError, start_error, start_row, units_of, beside}
 use Rattle.rx_spec.proofs.Prelude.{first_offset, next_offset, unit_offset, match_error, Item, Ending}
 use Rattle.rx_spec.proofs.Prelude.{OverlappingMatches, none_left, pattern_items, at_item_label, overlapping_walk}
@@ -8,7 +8,7 @@ use Rattle.rx_spec.proofs.Prelude.{overlapping}
 use Rattle.rx_spec.specs.declared.Direction.{Direction}
 use Rattle.lemmas_walks.proofs.WalkBounds.{offset_in_span, offset_after-next, offset_after-zero, Came, came_first}
 use Rattle.lemmas_walks.proofs.WalkBounds.{came_later, LeadsToItem, LeadsToQuit}
-use Rattle.lemmas_walks.proofs.Firsts.{by_test, Contains-here, Contains-there, Contains-nil, Contains-cases}
+use Rattle.lemmas_walks.proofs.Firsts.{by_test, Contains-there, Contains-nil, Contains-cases}
 use Rattle.lemmas_walks.proofs.HalfSearches.{Refused, begins}
 use Rattle.lemmas_walks.proofs.Overlapping.{overlapping-nil, overlapping-cons}
 
@@ -19,10 +19,7 @@ of_patterns [] offset h c = absurd (Contains-nil (Item.Reported h) c)
 of_patterns (k ∷ ks) offset h c =
     let here : HalfMatch = record { pattern = k; offset = offset } in
     ⊎_elim
-    (λ (e : Item.Reported here ≡ Item.Reported h). let same = reported here h e in (
-      subst (λ (m : HalfMatch). Contains (k ∷ ks) m.pattern) same (Contains-here k ks),
-      subst (λ (m : HalfMatch). m.offset ≡ offset) same refl,
-    ))
+    (λ (e : Item.Reported here ≡ Item.Reported h). grind (arith, common_steps))
     (λ (d : Contains (pattern_items ks offset) (Item.Reported h)).
     let later = of_patterns ks offset h d in (Contains-there k ks h.pattern later.0, later.1))
     (Contains-cases (Item.Reported here) (pattern_items ks offset) (Item.Reported h) c)
@@ -97,18 +94,14 @@ module _ {R : Type 0} (m : Machine R) (direction : Direction) where
       ⊎_elim
       (λ (q : (m.label next ≡ Label.Quits)
       × (MatchError.Quit byte at ≡ MatchError.Quit unit (unit_offset direction offset))).
-      came_first m row unit units (LeadsToQuit m direction offset (MatchError.Quit byte at)) (record {
-        label = q.0;
-        told = q.1 ∙ ap (λ o. MatchError.Quit unit (unit_offset direction o)) (offset_after-zero direction offset);
-      }))
+      grind (arith, common_steps, came_first, unit_offset, offset_after-zero))
       (λ (d : Quits (rest (m.is_dead next))).
       by_test (m.is_dead next) (λ t. absurd (ended_not byte at (subst (λ v. Quits (rest v)) t d)))
       (λ t. came_later m row unit units (LeadsToQuit m direction here (MatchError.Quit byte at))
       (LeadsToQuit m direction offset (MatchError.Quit byte at))
       (λ from u place l. record {
         label = l.label;
-        told =
-            l.told ∙ ap (λ o. MatchError.Quit u (unit_offset direction o)) (offset_after-next direction offset place);
+        told = grind (arith, common_steps, unit_offset, offset_after-next);
       })
       (overlapping_quit units next here byte at (subst (λ v. Quits (rest v)) t d))))
       (quits_or (m.label next) unit offset (rest (m.is_dead next)) byte at

@@ -59,8 +59,7 @@ module _ {R : Type 0} (m : Machine R) where
   came_later row unit units P Q f c = record {
     place = suc c.place;
     within = (let h = c.within in omega arith);
-    leads = subst (λ x. Q x (get_or units c.place 256) (suc c.place))
-        (sym (run-cons m.next row unit (take c.place units))) (f _ _ c.place c.leads);
+    leads = grind (arith, common_steps, run-cons);
   }
 
   pub came_first : (row : R) (unit : ℕ) (units : List ℕ) (P : R → ℕ → ℕ → Type 0) → P row unit 0
@@ -100,30 +99,15 @@ module _ {R : Type 0} (m : Machine R) (direction : Direction) (earliest : Bool) 
       let met = last_match (m.label next) offset last in
       let on = walk m direction earliest next (next_offset direction offset) met units in
       let here : (met ≡ Some h) → (last ≡ Some h) ⊎ Came m row (unit ∷ units) (LeadsToMatch m direction offset h)
-      = λ e. ⊎_elim (λ (l : last ≡ Some h). inl l)
-      (λ (k : (ks : List ℕ) × (m.label next ≡ Label.Matches ks) × (h ≡ first_match ks offset)).
-      inr (came_first m row unit units (LeadsToMatch m direction offset h) (record {
-        patterns = k.0;
-        label = k.1;
-        told = k.2 ∙ ap (first_match k.0) (offset_after-zero direction offset);
-      })))
-      (met_or (m.label next) offset last h e) in
+      = grind (arith, common_steps, first_match, came_first, offset_after-zero, met_or) in
       let later : (on ≡ Ok (Some h)) → (last ≡ Some h) ⊎ Came m row (unit ∷ units) (LeadsToMatch m direction offset h)
       = λ v. ⊎_elim here
-      (λ (c : Came m next units (LeadsToMatch m direction (next_offset direction offset) h)). inr
-      (came_later m row unit units
-      (LeadsToMatch m direction (next_offset direction offset) h) (LeadsToMatch m direction offset h)
-      (λ from u place l. record {
-        patterns = l.patterns;
-        label = l.label;
-        told = l.told ∙ ap (first_match l.patterns) (offset_after-next direction offset place);
-      }) c))
+      (λ (c : Came m next units (LeadsToMatch m direction (next_offset direction offset) h)).
+      grind (arith, common_steps, came_later, next_offset, first_match, offset_after-next))
       (walk_met units next (next_offset direction offset) met h v) in
       let now = λ (e : ◌≡◌ {A = HalfAnswer} (Ok met) (Ok (Some h))). here (told_same met (Some h) e) in
       ⊎_elim now
-      (λ (e : (if m.is_dead next then Ok met else on) ≡ Ok (Some h)).
-      by_test (m.is_dead next) (λ d. now (sym (ap (λ v. if v then Ok met else on) d) ∙ e))
-      (λ d. later (sym (ap (λ v. if v then Ok met else on) d) ∙ e)))
+      (λ (e : (if m.is_dead next then Ok met else on) ≡ Ok (Some h)). grind (arith, common_steps, by_test))
       (told_or (m.label next) unit offset (Ok met) (if m.is_dead next then Ok met else on) h
       (sym (walk-cons m direction earliest row unit offset last units) ∙ w))
 
@@ -138,10 +122,7 @@ module _ {R : Type 0} (m : Machine R) (direction : Direction) (earliest : Bool) 
       let on = walk m direction earliest next (next_offset direction offset) met units in
       ⊎_elim
       (λ (q : (m.label next ≡ Label.Quits) × (error ≡ MatchError.Quit unit (unit_offset direction offset))).
-      came_first m row unit units (LeadsToQuit m direction offset error) (record {
-        label = q.0;
-        told = q.1 ∙ ap (λ o. MatchError.Quit unit (unit_offset direction o)) (offset_after-zero direction offset);
-      }))
+      grind (arith, common_steps, came_first, unit_offset, offset_after-zero))
       (λ (e : (if m.is_dead next then Ok met else on) ≡ Err error).
       by_test (m.is_dead next)
       (λ d. absurd (error_not_told error met (sym (sym (ap (λ v. if v then Ok met else on) d) ∙ e))))
@@ -149,8 +130,7 @@ module _ {R : Type 0} (m : Machine R) (direction : Direction) (earliest : Bool) 
       (LeadsToQuit m direction offset error)
       (λ from u place l. record {
         label = l.label;
-        told =
-            l.told ∙ ap (λ o. MatchError.Quit u (unit_offset direction o)) (offset_after-next direction offset place);
+        told = grind (arith, common_steps, unit_offset, offset_after-next);
       })
       (walk_quit units next (next_offset direction offset) met error (sym (ap (λ v. if v then Ok met else on) d) ∙ e))))
       (quit_or (m.label next) unit offset met (if m.is_dead next then Ok met else on) error

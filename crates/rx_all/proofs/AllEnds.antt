@@ -1,14 +1,14 @@
 -- Over a build of the kind All an overlapping search tells exactly the ends of all patterns.
+use Rattle.std.proofs.lemmas.Grind.{common_steps}
 use Rattle.rx_spec.proofs.Prelude.{◌≡◌, ◌≢◌, ℕ, zero, suc, ◌+◌, ◌<◌, ◌≤◌, ◌==◌, ◌&&◌, Bool, true, false, if◌then◌else◌}
 use Rattle.rx_spec.proofs.Prelude.{Option, Some, None, List, [], ◌∷◌, refl, ap, sym, ◌∙◌, subst, arith, ⊎_elim, ◌⊎◌}
-use Rattle.rx_spec.proofs.Prelude.{inl, inr, eq-eqb, ne_eqb, eqb-true, and_right, and_from, and_parts, cases_eq}
-use Rattle.rx_spec.proofs.Prelude.{Contains-append_left, Contains-append_right, Contains-append_cases, Contains}
-use Rattle.rx_spec.proofs.Prelude.{option_or, HalfMatch, first_of, label_of, State, decided_rows, cut, step, Node}
-use Rattle.rx_spec.proofs.Prelude.{is_dead_state, power, Item, Ending, OverlappingMatches, pattern_items, with_items}
-use Rattle.rx_spec.proofs.Prelude.{at_item_label}
+use Rattle.rx_spec.proofs.Prelude.{inl, inr, ne_eqb, and_right, cases_eq, Contains-append_left, Contains-append_right}
+use Rattle.rx_spec.proofs.Prelude.{Contains-append_cases, Contains, option_or, HalfMatch, first_of, label_of, State}
+use Rattle.rx_spec.proofs.Prelude.{decided_rows, cut, step, Node, is_dead_state, power, Item, Ending}
+use Rattle.rx_spec.proofs.Prelude.{OverlappingMatches, pattern_items, with_items, at_item_label}
 use Rattle.rx_spec.specs.declared.Direction.{Direction}
 use Rattle.rx_spec.specs.declared.MatchKind.{MatchKind}
-use Rattle.lemmas_walks.proofs.Firsts.{by_test, Contains-here, Contains-there, Contains-cases, Contains-nil}
+use Rattle.lemmas_walks.proofs.Firsts.{by_test, Contains-there, Contains-cases, Contains-nil}
 use Rattle.lemmas_walks.proofs.Overlapping.{state_overlapping, overlapping_dead, overlapping_quits, overlapping_steps}
 use Rattle.lemmas_walks.proofs.ReadUnits.{unit_at, units_from, units_from-suc}
 use Rattle.lemmas_walks.proofs.SilentRows.{dead_empty}
@@ -49,8 +49,7 @@ module _ {A : Type 0} (f : A → Option ℕ) (v : ℕ) where
       by_first None is h rest =
           let later = rest (sym (ap (λ (o : Option ℕ). option_or o (first_of f ys)) is) ∙ h) in
           (later.0, Contains-there y ys later.0 later.1, later.2)
-      by_first (Some w) is h rest =
-          (y, Contains-here y ys, is ∙ sym (ap (λ (o : Option ℕ). option_or o (first_of f ys)) is) ∙ h)
+      by_first (Some w) is h rest = grind (arith, common_steps)
 
   pub first_one : OneValue → (xs : List A) → (first_of f xs ≡ None) ⊎ (first_of f xs ≡ Some v)
   first_one one [] = inl (first_of-nil f)
@@ -62,8 +61,7 @@ module _ {A : Type 0} (f : A → Option ℕ) (v : ℕ) where
       (λ (n : first_of f ys ≡ None). inl (on ∙ n))
       (λ (s : first_of f ys ≡ Some v). inr (on ∙ s))
       (first_one one ys))
-      (λ (some : f y ≡ Some v).
-      inr (first_of-cons f y ys ∙ ap (λ (o : Option ℕ). option_or o (first_of f ys)) some))
+      (λ (some : f y ≡ Some v). grind (arith, common_steps, first_of-cons, option_or, first_of))
       (one y)
 
 -- ---- one pattern at one place
@@ -84,15 +82,10 @@ only_other j place k i other =
     ap (λ v. if v then Some j else None) (and_right (k == j) (i == place) (ne_eqb i place other))
 
 pub only_here : (j place : ℕ) → only j place j place ≡ Some j
-only_here j place =
-    ap (λ v. if v then Some j else None)
-    (and_from (j == j) (place == place) (eq-eqb j j refl) (eq-eqb place place refl))
+only_here j place = grind (arith, common_steps)
 
 pub only_is : (j place k i : ℕ) → only j place k i ≡ Some j → (k ≡ j) × (i ≡ place)
-only_is j place k i e =
-    by_test ((k == j) && (i == place))
-    (λ b. let parts = and_parts (k == j) (i == place) b in (eqb-true k j parts.0, eqb-true i place parts.1))
-    (λ b. absurd (let no = sym (ap (λ v. if v then Some j else None) b) ∙ e in cc))
+only_is j place k i e = grind (arith, common_steps, by_test)
 
 -- ---- what the items of a row are
 
@@ -102,10 +95,7 @@ patterns_have [] o h c = absurd (Contains-nil (Item.Reported h) c)
 patterns_have (k ∷ ks) o h c =
     let here : HalfMatch = record { pattern = k; offset = o } in
     ⊎_elim
-    (λ (e : Item.Reported here ≡ Item.Reported h). let same : here ≡ h = cc e in (
-      subst (λ (m : HalfMatch). Contains (k ∷ ks) m.pattern) same (Contains-here k ks),
-      ap (λ (m : HalfMatch). m.offset) same,
-    ))
+    (λ (e : Item.Reported here ≡ Item.Reported h). grind (arith, common_steps))
     (λ (d : Contains (pattern_items ks o) (Item.Reported h)).
     let later = patterns_have ks o h d in (Contains-there k ks h.pattern later.0, later.1))
     (Contains-cases (Item.Reported here) (pattern_items ks o) (Item.Reported h) c)
@@ -115,11 +105,7 @@ pub have_patterns : (ks : List ℕ) (o j : ℕ) → Contains ks j
 have_patterns [] o j c = absurd (Contains-nil j c)
 have_patterns (k ∷ ks) o j c =
     let item : ℕ → Item = λ i. Item.Reported (record { pattern = i; offset = o }) in
-    ⊎_elim
-    (λ (e : k ≡ j). subst (λ (i : ℕ). Contains (item k ∷ pattern_items ks o) (item i)) e
-    (Contains-here (item k) (pattern_items ks o)))
-    (λ (d : Contains ks j). Contains-there (item k) (pattern_items ks o) (item j) (have_patterns ks o j d))
-    (Contains-cases k ks j c)
+    grind (arith, common_steps)
 
 label_tells_items : (ks : List ℕ) (unit o : ℕ) (later : OverlappingMatches)
     → at_item_label (label_of ks) Direction.Forward unit o later ≡ with_items (pattern_items ks o) later
@@ -143,22 +129,17 @@ module _ (c : Scan) (all : c.build.kind ≡ MatchKind.All) (j place : ℕ) where
   label_all s i = ap (λ (qs : List ℕ). matched c.build.nfa.rows qs) (cuts s i)
 
   gives_later : (s : State) (i : ℕ) → StandsAt c s i → i < place → gives (step_at c s i) (i + 1) ≡ gives s i
-  gives_later s i at h =
-      step_later c (only j place) i s (cuts s i) (λ k. only_other j place k i (λ e. omega (arith, e, h))) at
+  gives_later s i at h = step_later c (only j place) i s (cuts s i) (λ k. only_other j place k i (λ e. omega arith)) at
 
   gives_here : (s : State) → StandsAt c s place
       → gives s place ≡ label_worth (only j place) place (step_at c s place).label
   gives_here s at =
       let none : (q : ℕ) → given (valued c (only j place)) q (place + 1) ≡ None
-      = λ q. given_none (valued c (only j place)) q (place + 1)
-      (λ k i low. only_other j place k i (λ e. omega (arith, low, e))) in
-      step_here c (only j place) place s none at
-      ∙ ap (label_worth (only j place) place) (sym (label_all s place))
+      = grind (arith, common_steps, given_none, valued, only_other) in
+      grind (arith, common_steps, step_here, label_all)
 
   gives_dead : (s : State) (i : ℕ) → is_dead_state s ≡ true → gives s i ≡ None
-  gives_dead s i d =
-      ap (first_given (valued c (only j place)) i) (dead_empty s d).0
-      ∙ first_of-nil (λ (q : ℕ). given (valued c (only j place)) q i)
+  gives_dead s i d = grind (arith, common_steps, first_given, valued, dead_empty, first_of-nil)
 
   abbrev pub told : State → ℕ → ℕ → OverlappingMatches
   told s i n = state_overlapping c.build Direction.Forward s i (units_from (read_in c) i n)
@@ -180,7 +161,7 @@ module _ (c : Scan) (all : c.build.kind ≡ MatchKind.All) (j place : ℕ) where
 
   pub tells : (n i : ℕ) (s : State) → StandsAt c s i → i ≤ place → place < i + n → (told s i n).ending ≡ Ending.Ended
       → Tells s i n
-  tells zero i s at low high ended = absurd (omega (arith, low, high))
+  tells zero i s at low high ended = absurd (omega arith)
   tells (suc n) i s at low high ended =
       let unit = unit_at (read_in c) i in
       let units = units_from (read_in c) (i + 1) n in
@@ -189,9 +170,7 @@ module _ (c : Scan) (all : c.build.kind ≡ MatchKind.All) (j place : ℕ) where
       elim (leads c.build s unit) as (λ l. Tells s i (suc n)) [
         | Dead d ↦
             let over = more ∙ overlapping_dead c.build Direction.Forward s i (unit ∷ units) d in
-            tells_by s i (suc n) over
-            (λ has. absurd (Contains-nil item has))
-            (λ v. absurd (let no = sym (gives_dead s i d) ∙ v in cc))
+            grind (arith, common_steps, gives_dead)
         | Quits d q ↦
             absurd (quits_not unit i
             (sym (ap (λ (x : OverlappingMatches). x.ending)
@@ -206,9 +185,9 @@ module _ (c : Scan) (all : c.build.kind ≡ MatchKind.All) (j place : ℕ) where
             ⊎_elim
             (λ (here : i ≡ place). here_tells s i n at on here)
             (λ (other : i ≢ place).
-            let later = tells n (i + 1) next (step_stands c s i) (omega (arith, low, other)) (omega (arith, high))
+            let later = tells n (i + 1) next (step_stands c s i) (omega arith) (omega arith)
             ended_on in
-            let same = gives_later s i at (omega (arith, low, other)) in
+            let same = gives_later s i at (omega arith) in
             tells_by s i (suc n) on
             (λ has. ⊎_elim
             (λ (first : Contains (pattern_items ks i) item). absurd (other (patterns_have ks i _ first).1))
@@ -230,8 +209,7 @@ module _ (c : Scan) (all : c.build.kind ≡ MatchKind.All) (j place : ℕ) where
           let ks = next.label in
           let behind = told next (i + 1) n in
           let worth : gives s i ≡ label_worth (only j place) place ks
-          = subst (λ (o : ℕ). StandsAt c s o → gives s o ≡ label_worth (only j place) place (step_at c s o).label)
-          (sym here) (gives_here s) at in
+          = grind (arith, common_steps, label_worth, step_at, gives_here) in
           let past = walk_past (power c.build) (Node.Running next) (i + 1) i (units_from (read_in c) (i + 1) n)
           (omega arith) in
           tells_by s i (suc n) on
@@ -239,8 +217,7 @@ module _ (c : Scan) (all : c.build.kind ≡ MatchKind.All) (j place : ℕ) where
           (λ (first : Contains (pattern_items ks i) item).
           worth ∙ first_has (λ (k : ℕ). only j place k place) j (only_one j place place) ks j
           (patterns_have ks i _ first).0 (only_here j place))
-          (λ (later : Contains behind.items item).
-          absurd (let above = past_one i behind.items _ past later in omega (arith, above, here)))
+          (λ (later : Contains behind.items item). grind (arith, common_steps, past_one))
           (Contains-append_cases (pattern_items ks i) behind.items item has))
           (λ v.
           let found = has_first (λ (k : ℕ). only j place k place) j ks (sym worth ∙ v) in

@@ -1,10 +1,11 @@
 -- What is told at a place over a table of the kind All: exactly the matches of all patterns from there.
+use Rattle.std.proofs.lemmas.Grind.{common_steps}
 use Rattle.rx_spec.proofs.Prelude.{◌≡◌, ℕ, zero, suc, ◌+◌, ◌-◌, ◌<◌, ◌≤◌, Option, Some, None, List, length, refl, ap}
-use Rattle.rx_spec.proofs.Prelude.{ap₂, sym, ◌∙◌, subst, arith, ⊎_elim, ◌⊎◌, inl, inr, map-id, slice_get_within}
-use Rattle.rx_spec.proofs.Prelude.{slice_get, Contains, All, option_and_then, range_with_len, AreBytes, Expression}
-use Rattle.rx_spec.proofs.Prelude.{IsLoopSafe, ends, Anchored, Query, reading, HalfMatch, MatchError, start_of}
-use Rattle.rx_spec.proofs.Prelude.{first_of, Build, Node, nfa_start, start_node, power, build_settings, beside}
-use Rattle.rx_spec.proofs.Prelude.{match_error, Item, Ending, OverlappingMatches, overlapping, overlapping_walk, Plan}
+use Rattle.rx_spec.proofs.Prelude.{ap₂, sym, ◌∙◌, subst, arith, ◌⊎◌, inl, map-id, slice_get_within, slice_get, Contains}
+use Rattle.rx_spec.proofs.Prelude.{All, option_and_then, range_with_len, AreBytes, Expression, IsLoopSafe, ends}
+use Rattle.rx_spec.proofs.Prelude.{Anchored, Query, reading, HalfMatch, MatchError, start_of, first_of, Build, Node}
+use Rattle.rx_spec.proofs.Prelude.{nfa_start, start_node, power, build_settings, beside, match_error, Item, Ending}
+use Rattle.rx_spec.proofs.Prelude.{OverlappingMatches, overlapping, overlapping_walk, Plan}
 use Rattle.std.proofs.lemmas.Option.{option_and_then_some}
 use Rattle.rx_spec.specs.declared.Direction.{Direction}
 use Rattle.rx_spec.specs.declared.Start.{Start}
@@ -24,14 +25,14 @@ use Rattle.rx_all.proofs.AllEnds.{tells, gives}
 use Rattle.rx_all.proofs.ServedPlaces.{told_same}
 
 range_has : (n base j : ℕ) → j < n → Contains (range_with_len base n) (base + j)
-range_has zero base j h = absurd (omega (arith, h))
+range_has zero base j h = absurd (omega arith)
 range_has (suc n) base zero h =
     let here : base ≡ base + 0 = omega arith in
     subst (Contains (range_with_len base (suc n))) here (Contains-here base (range_with_len (base + 1) n))
 range_has (suc n) base (suc j) h =
     let place : base + 1 + j ≡ base + suc j = omega arith in
     subst (Contains (range_with_len base (suc n))) place
-    (Contains-there base (range_with_len (base + 1) n) (base + 1 + j) (range_has n (base + 1) j (omega (arith, h))))
+    (Contains-there base (range_with_len (base + 1) n) (base + 1 + j) (range_has n (base + 1) j (omega arith)))
 
 -- ---- at a place of a text
 
@@ -72,9 +73,9 @@ module _ (plan : Plan) (es : List Expression) (safe : All IsLoopSafe es) (text :
   matched_within k end m =
       let r = reading Direction.Forward t text in
       let each = All-got IsLoopSafe es k m.expression safe m.numbered in
-      let lies = reaches_lie r m.expression p end (omega (arith, more))
+      let lies = reaches_lie r m.expression p end (omega arith)
       (reaches_sound r m.expression p end each m.matches) in
-      (omega (arith, lies.0), lies.1)
+      (omega arith, lies.1)
 
   -- ---- the start
 
@@ -96,25 +97,14 @@ module _ (plan : Plan) (es : List Expression) (safe : All IsLoopSafe es) (text :
     ends_one k (Some e) = first_one (λ i. only j place k i) j (λ i. only_one j place i k) (forward_ends e)
 
     one_one : OneValue one j
-    one_one k =
-        ⊎_elim
-        (λ (n : of_pattern k (slice_get es k) ≡ None). inl (one_is k ∙ n))
-        (λ (s : of_pattern k (slice_get es k) ≡ Some j). inr (one_is k ∙ s))
-        (ends_one k (slice_get es k))
+    one_one k = grind (arith, common_steps, slice_get, one_is, ends_one)
 
     pub worth_matches : all_worth asked Direction.Forward (only j place) p ≡ Some j → Matches j place
     worth_matches e =
         let k = has_first one j (range_with_len 0 (length es)) e in
         option_and_then_some (λ e. first_of (λ i. only j place k.0 i) (forward_ends e)) (slice_get es k.0) j
         (sym (one_is k.0) ∙ k.2)
-        (λ x got some.
-        let end = has_first (λ i. only j place k.0 i) j (forward_ends x) some in
-        let is = only_is j place k.0 end.0 end.2 in
-        let found : MatchesTo es plan.line_terminator text p j place = record {
-          expression = x;
-          numbered = ap (slice_get es) (sym is.0) ∙ got;
-          matches = subst (Contains (forward_ends x)) is.1 end.1;
-        } in found)
+        (λ x got some. grind (arith, common_steps, has_first, only, only_is, slice_get))
 
     pub matches_worth : Matches j place → all_worth asked Direction.Forward (only j place) p ≡ Some j
     matches_worth m =
@@ -153,11 +143,9 @@ module _ (plan : Plan) (es : List Expression) (safe : All IsLoopSafe es) (text :
 
       by_start : Begins (build_settings b) Direction.Forward q
           → found ≡ told c refl 0 0 (begin_state asked Direction.Forward) p (suc (length text - p))
-      by_start (Done past) = absurd (omega (arith, past, more))
+      by_start (Done past) = absurd (omega arith)
       by_start (Refused order error is) =
-          absurd (refused_not (match_error Direction.Forward q error)
-          (sym (ap (λ (m : OverlappingMatches). m.ending)
-          (overlapping_refused (power b) (build_settings b) Direction.Forward q error (going q order) is)) ∙ ended))
+          grind (arith, common_steps, refused_not, match_error, overlapping_refused, power)
       by_start (Started order is) =
           let row = nfa_start b.nfa q.mode in
           let context = start_of b.nfa.line_terminator (beside Direction.Forward q) in
@@ -170,14 +158,14 @@ module _ (plan : Plan) (es : List Expression) (safe : All IsLoopSafe es) (text :
           ∙ sym (units_from-alike (read_in c) (reading Direction.Forward t text) p (suc (length text - p)) refl))
 
   stands : StandsAt c (begin_state asked Direction.Forward) p
-  stands = let at = begin_stands asked Direction.Forward (omega (arith, more)) in record
+  stands = let at = begin_stands asked Direction.Forward (omega arith) in record
       { roots = at.roots; is = at.is }
 
   start_is : (j place : ℕ) → gives c refl j place (begin_state asked Direction.Forward) p
       ≡ all_worth asked Direction.Forward (only j place) p
   start_is j place =
       begin_gives asked Direction.Forward (only j place) p
-      ∙ start_gives asked Direction.Forward (only j place) Anchored.Yes p (omega (arith, more))
+      ∙ start_gives asked Direction.Forward (only j place) Anchored.Yes p (omega arith)
 
   -- What is told is exactly where the patterns match to.
   pub told_matches : found.ending ≡ Ending.Ended → (m : HalfMatch) → Contains found.items (Item.Reported m)
@@ -186,7 +174,7 @@ module _ (plan : Plan) (es : List Expression) (safe : All IsLoopSafe es) (text :
       let whole = begun ended in
       let is = tells c refl m.pattern m.offset (suc (length text - p)) p (begin_state asked Direction.Forward) stands
       low
-      (omega (arith, high, more)) (sym (ap (λ (x : OverlappingMatches). x.ending) whole) ∙ ended) in
+      (omega arith) (sym (ap (λ (x : OverlappingMatches). x.ending) whole) ∙ ended) in
       worth_matches m.pattern m.offset
       (sym (start_is m.pattern m.offset)
       ∙ is.given_told (subst (λ (x : OverlappingMatches). Contains x.items (Item.Reported m)) whole has))
@@ -197,7 +185,7 @@ module _ (plan : Plan) (es : List Expression) (safe : All IsLoopSafe es) (text :
       let whole = begun ended in
       let within = matched_within k end m in
       let is = tells c refl k end (suc (length text - p)) p (begin_state asked Direction.Forward) stands within.0
-      (omega (arith, within.1, more)) (sym (ap (λ (x : OverlappingMatches). x.ending) whole) ∙ ended) in
+      (omega arith) (sym (ap (λ (x : OverlappingMatches). x.ending) whole) ∙ ended) in
       subst (λ (x : OverlappingMatches). Contains x.items (Item.Reported (record { pattern = k; offset = end })))
       (sym whole)
       (is.told_given (start_is k end ∙ matches_worth k end m))
@@ -209,8 +197,7 @@ all_are_told t plan es text p is ended k q =
     let same = told_same is in
     let b = all_build plan es in
     let m : HalfMatch = record { pattern = k; offset = q } in
-    let over : (found plan es is.safe text is.bytes p is.more).ending ≡ Ending.Ended =
-    sym (ap (λ (x : OverlappingMatches). x.ending) same) ∙ ended in (
+    let over : (found plan es is.safe text is.bytes p is.more).ending ≡ Ending.Ended = grind (arith, common_steps) in (
       λ has.
           let there = subst (λ (x : OverlappingMatches). Contains x.items (Item.Reported m)) same has in
           let span = overlapping_in_span (power b) (build_settings b) Direction.Forward (query_at text p) m there in

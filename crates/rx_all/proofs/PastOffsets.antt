@@ -1,11 +1,12 @@
 -- What is told from an offset on ends there or later.
-use Rattle.rx_spec.proofs.Prelude.{◌≡◌, ℕ, ◌+◌, ◌<◌, true, false, if◌then◌else◌, List, [], ◌∷◌, sym, subst, arith}
-use Rattle.rx_spec.proofs.Prelude.{⊎_elim, Contains, HalfMatch, Label, Machine, Item, Ending, OverlappingMatches}
-use Rattle.rx_spec.proofs.Prelude.{none_left, pattern_items, at_item_label, overlapping_walk}
+use Rattle.std.proofs.lemmas.Grind.{common_steps}
+use Rattle.rx_spec.proofs.Prelude.{ℕ, ◌+◌, ◌<◌, true, false, if◌then◌else◌, List, [], ◌∷◌, sym, subst, arith, Contains}
+use Rattle.rx_spec.proofs.Prelude.{HalfMatch, Label, Machine, Item, Ending, OverlappingMatches, none_left}
+use Rattle.rx_spec.proofs.Prelude.{pattern_items, at_item_label, overlapping_walk}
 use Rattle.std.specs.List.{AllByRecursion as Every}
 use Rattle.rx_spec.specs.declared.Direction.{Direction}
 use Rattle.lemmas_walks.proofs.Every.{every-append}
-use Rattle.lemmas_walks.proofs.Firsts.{Contains-cases, Contains-nil}
+use Rattle.lemmas_walks.proofs.Firsts.{Contains-nil}
 use Rattle.lemmas_walks.proofs.Overlapping.{overlapping-nil, overlapping-cons}
 
 abbrev pub EndsPast : ℕ → Item → Type 0
@@ -18,11 +19,7 @@ AllPast o items = Every (EndsPast o) items
 pub past_one : (o : ℕ) (items : List Item) (n : HalfMatch) → AllPast o items → Contains items (Item.Reported n)
     → o < n.offset
 past_one o [] n all c = absurd (Contains-nil (Item.Reported n) c)
-past_one o (item ∷ items) n all c =
-    ⊎_elim
-    (λ (same : item ≡ Item.Reported n). subst (EndsPast o) same all.0)
-    (λ (d : Contains items (Item.Reported n)). past_one o items n all.1 d)
-    (Contains-cases item items (Item.Reported n) c)
+past_one o (item ∷ items) n all c = grind (arith, common_steps)
 
 -- ---- walks
 
@@ -45,7 +42,7 @@ module _ {R : Type 0} (m : Machine R) where
       subst (λ (x : OverlappingMatches). AllPast o x.items) (sym (overlapping-nil m Direction.Forward row at)) tt
   walk_past row at o (unit ∷ units) h =
       let next = m.next row unit in
-      let later = walk_past next (at + 1) o units (omega (arith, h)) in
+      let later = walk_past next (at + 1) o units (omega arith) in
       subst (λ (x : OverlappingMatches). AllPast o x.items)
       (sym (overlapping-cons m Direction.Forward row unit at units))
       (label_past (m.label next) unit at o _ h

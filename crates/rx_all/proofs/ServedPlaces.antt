@@ -1,11 +1,13 @@
 -- An anchored search of a table that serves a build tells what the build tells.
-use Rattle.rx_spec.proofs.Prelude.{◌≡◌, ℕ, ◌<◌, if◌then◌else◌, Option, Some, None, [], refl, ap, sym, ◌∙◌, lt-ltb, List}
-use Rattle.rx_spec.proofs.Prelude.{contains, Build, build_settings, power, beside, first_offset, units_of, Settings}
-use Rattle.rx_spec.proofs.Prelude.{overlapping, overlapping_walk, Plan, Expression, Anchored, Query, StartError}
-use Rattle.rx_spec.proofs.Prelude.{has_anchored, start_context, start_error, start_row, Table}
+use Rattle.std.proofs.Common.{arith}
+use Rattle.std.proofs.lemmas.Grind.{common_steps}
+use Rattle.rx_spec.proofs.Prelude.{◌≡◌, ℕ, ◌<◌, Option, Some, None, [], refl, ap, sym, ◌∙◌, lt-ltb, List, Build}
+use Rattle.rx_spec.proofs.Prelude.{build_settings, power, beside, first_offset, units_of, Settings, overlapping}
+use Rattle.rx_spec.proofs.Prelude.{overlapping_walk, Plan, Expression, Anchored, Query, start_context, start_error}
+use Rattle.rx_spec.proofs.Prelude.{start_row, Table}
 use Rattle.rx_spec.specs.declared.Direction.{Direction}
 use Rattle.lemmas_walks.proofs.HalfSearches.{Begins, Done, Refused, Started, begins, going, has_yes, started}
-use Rattle.lemmas_walks.proofs.Overlapping.{overlapping_done, overlapping_refused, overlapping_walks}
+use Rattle.lemmas_walks.proofs.Overlapping.{overlapping_refused, overlapping_walks}
 use Rattle.lemmas_walks.proofs.ReadUnits.{beside_is_byte, units_word}
 use Rattle.lemmas_walks.proofs.SilentRows.{AnyNode, IsRow, power_ends_well, table_ends_well}
 use Rattle.rx_meaning.proofs.AlikeRows.{Alike, overlapping_alike}
@@ -35,14 +37,8 @@ module _ {t : Table} {plan : Plan} {es : List Expression} {text : List ℕ} {p :
 
   error_same : (o : Option ℕ) → ((byte : ℕ) → o ≡ Some byte → byte < 256)
       → start_error t.settings o Anchored.Yes ≡ start_error r o Anchored.Yes
-  error_same None h =
-      ap (λ kind. if has_anchored kind then None else Some (StartError.UnsupportedAnchored Anchored.Yes))
-      is.serves.start_kind
-  error_same (Some byte) h =
-      ap (λ v. if v then Some (StartError.Quit byte) else (if has_anchored t.settings.start_kind then None
-      else Some (StartError.UnsupportedAnchored Anchored.Yes))) (is.serves.quit byte (h byte refl))
-      ∙ ap (λ kind. if contains r.quit byte then Some (StartError.Quit byte) else (if has_anchored kind then None
-      else Some (StartError.UnsupportedAnchored Anchored.Yes))) is.serves.start_kind
+  error_same None h = grind (arith, common_steps)
+  error_same (Some byte) h = grind (arith, common_steps)
 
   row_same : start_row t.machine t.settings before Anchored.Yes ≡ start_row t.machine r before Anchored.Yes
   row_same = ap (t.machine.entry Anchored.Yes) (context_same before is_byte)
@@ -65,14 +61,9 @@ module _ {t : Table} {plan : Plan} {es : List Expression} {text : List ℕ} {p :
     where
       by_start : Begins r Direction.Forward q
           → told_at t text p ≡ overlapping (power b) (build_settings b) Direction.Forward q
-      by_start (Done past) =
-          let d = lt-ltb q.end q.start past in
-          overlapping_done t.machine t.settings Direction.Forward q d
-          ∙ sym (overlapping_done (power b) r Direction.Forward q d)
+      by_start (Done past) = grind (arith, common_steps, lt-ltb)
       by_start (Refused order error refused) =
-          overlapping_refused t.machine t.settings Direction.Forward q error (going q order)
-          (error_same before is_byte ∙ refused)
-          ∙ sym (overlapping_refused (power b) r Direction.Forward q error (going q order) refused)
+          grind (arith, common_steps, overlapping_refused, going, error_same, is_byte)
       by_start (Started order none) =
           overlapping_walks t.machine t.settings Direction.Forward q (going q order)
           (error_same before is_byte ∙ none)

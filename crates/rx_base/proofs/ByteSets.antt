@@ -1,15 +1,14 @@
 -- A set of bytes, a number of 256 bits, by its two halves of 128, and its bytes after a change.
-use Rattle.rx_spec.proofs.Prelude.{rules, ℕ, ◌≡◌, ◌≢◌, ◌+◌, ◌-◌, ◌*◌, ◌^◌, ◌/◌, ◌%◌, ◌<◌, ◌≤◌, ◌⊎◌, refl, sym, ◌∙◌, ap}
-use Rattle.rx_spec.proofs.Prelude.{subst, arith, inl, inr, bit_or, bit_and, true, ◌==◌, ◌&&◌, ◌||◌, not, nat_le, nat_lt}
-use Rattle.rx_spec.proofs.Prelude.{max, ap₂, suc, zero, common_steps, w128, bit_at, and-true, and-false, nat_tests}
-use Rattle.rx_spec.proofs.Prelude.{eqb_tells, or_lt, one_shl, contains, only, between, differ, parts}
+use Rattle.rx_spec.proofs.Prelude.{rules, ℕ, ◌≡◌, ◌≢◌, ◌+◌, ◌-◌, ◌*◌, ◌^◌, ◌/◌, ◌%◌, ◌<◌, ◌≤◌, ◌⊎◌, sym, ◌∙◌, ap, subst}
+use Rattle.rx_spec.proofs.Prelude.{arith, inl, inr, bit_or, bit_and, true, ◌==◌, ◌&&◌, ◌||◌, not, nat_le, nat_lt, ap₂}
+use Rattle.rx_spec.proofs.Prelude.{suc, common_steps, w128, bit_at, nat_tests, eqb_tells, or_lt, one_shl, contains}
+use Rattle.rx_spec.proofs.Prelude.{only, between, parts}
 use Rattle.std.proofs.Common.{bit_xor}
 use Rattle.std.specs.Int.Bits.{or_zero_r, and_lt}
 use Rattle.std.proofs.lemmas.Nat.{or_block, pow_below, pow-add, xor_lt}
-use Rattle.std.proofs.lemmas.Nat.Bits.{shr_and_one, bit_at-lt, bit_at_or, bit_at-pow_same, bit_at-pow_other}
-use Rattle.std.proofs.lemmas.Nat.Bits.{bit_at_above, bit_at-suc, bit_at_xor, bit_at_cat_low, bit_at_cat_high}
-use Rattle.std.proofs.lemmas.Nat.Bits.{bit_at_clear_same, bit_at_clear_other, bit_at_mask_below, bit_at_mask_inside}
-use Rattle.std.proofs.lemmas.Nat.Bits.{bit_at_mask_above}
+use Rattle.std.proofs.lemmas.Nat.Bits.{shr_and_one, bit_at_or, bit_at-pow_same, bit_at-pow_other, bit_at_above}
+use Rattle.std.proofs.lemmas.Nat.Bits.{bit_at-suc, bit_at_xor, bit_at_cat_low, bit_at_cat_high, bit_at_clear_same}
+use Rattle.std.proofs.lemmas.Nat.Bits.{bit_at_clear_other, bit_at_mask_below, bit_at_mask_inside, bit_at_mask_above}
 
 abbrev pub joined : ℕ → ℕ → ℕ
 joined high low = high * 2 ^ 128 + low
@@ -77,7 +76,7 @@ joined-or_high high low b fits from below =
 -- ---- one byte less
 without : (set changed b : ℕ) → bit_at changed b ≡ 0 → ((c : ℕ) → c ≢ b → bit_at changed c ≡ bit_at set c)
     → (c : ℕ) → contains changed c ≡ (contains set c && not (c == b))
-without set changed b gone kept c = grind (arith, common_steps, eqb_tells, and-false, and-true)
+without set changed b gone kept c = grind (arith, common_steps)
 
 -- a half without a bit
 abbrev pub cleared : ℕ → ℕ → ℕ
@@ -134,14 +133,11 @@ contains-without_high high low b fits from below =
         ]
 
 -- ---- the bytes of a union, of one byte, of a range
-or_bit : (x y : ℕ) → x < 2 → y < 2 → (max x y == 1) ≡ ((x == 1) || (y == 1))
-or_bit x y h k = grind (arith, nat_tests)
-
 pub contains-or : (set other b : ℕ) → contains (bit_or set other) b ≡ (contains set b || contains other b)
-contains-or set other b = grind (arith, common_steps, bit_at_or, or_bit, bit_at-lt)
+contains-or set other b = grind (arith, common_steps, bit_at_or)
 
 pub contains-only : (byte b : ℕ) → byte < 256 → contains (only byte) b ≡ (b == byte)
-contains-only byte b h = grind (arith, common_steps, eqb_tells, nat_tests, bit_at-pow_same, bit_at-pow_other, and-false)
+contains-only byte b h = grind (arith, common_steps, eqb_tells, nat_tests, bit_at-pow_same, bit_at-pow_other)
 
 pub contains-add : (set byte b : ℕ) → byte < 256 → contains (bit_or set (only byte)) b ≡ (contains set b || (b == byte))
 contains-add set byte b h = grind (arith, common_steps, contains-or, contains-only)
@@ -149,7 +145,7 @@ contains-add set byte b h = grind (arith, common_steps, contains-or, contains-on
 pub contains-between : (first last b : ℕ) → last < 256
     → contains (between first last) b ≡ (nat_le first b && nat_le b last)
 contains-between first last b h =
-    grind (arith, common_steps, nat_tests, bit_at_mask_below, and-false, bit_at_mask_inside, bit_at_mask_above)
+    grind (arith, common_steps, nat_tests, bit_at_mask_below, bit_at_mask_inside, bit_at_mask_above)
 
 -- the bytes where a range is told apart from what is beside it: the one before it, and its last one
 pub parts-between : (first last b : ℕ) → first ≤ last → last < 256
@@ -184,23 +180,11 @@ half-fits h fits = omega arith
 halved : (h l : ℕ) → joined (h / 2) (next_low h l) ≡ joined h l / 2
 halved h l = omega arith
 
-one_of_two : (x y : ℕ) → x < 2 → y < 2 → ((x + y) % 2 == 1) ≡ differ (x == 1) (y == 1)
-one_of_two zero zero x_bit y_bit = refl
-one_of_two zero (suc zero) x_bit y_bit = refl
-one_of_two (suc zero) zero x_bit y_bit = refl
-one_of_two (suc zero) (suc zero) x_bit y_bit = refl
-one_of_two (suc (suc x)) y x_bit y_bit = absurd (omega arith)
-one_of_two x (suc (suc y)) x_bit y_bit = absurd (omega arith)
-
 pub contains-ends : (h l b : ℕ) → l < 2 ^ 128 → b < 255
     → contains (joined (bit_xor h (h / 2)) (bit_xor l (next_low h l))) b ≡ parts (contains (joined h l)) b (b + 1)
 contains-ends h l b fits below =
     let set = joined h l in
-    let here : nat_lt b 256 ≡ true = grind (arith, nat_tests, below) in
-    let next : nat_lt (b + 1) 256 ≡ true = grind (arith, nat_tests, below) in
+    let here : nat_lt b 256 ≡ true = grind (arith, nat_tests) in
+    let next : nat_lt (b + 1) 256 ≡ true = grind (arith, nat_tests) in
     let later : suc b ≡ b + 1 = omega arith in
-    ap (λ bit. nat_lt b 256 && (bit == 1))
-    (xor_bit h l (h / 2) (next_low h l) b fits (next_low-fits h l fits)
-    ∙ ap (λ (n : ℕ). (bit_at set b + bit_at n b) % 2) (halved h l)
-    ∙ ap (λ (bit : ℕ). (bit_at set b + bit) % 2) (sym (bit_at-suc set b) ∙ ap (bit_at set) later))
-    ∙ rw (here, next) (one_of_two (bit_at set b) (bit_at set (b + 1)) (bit_at-lt set b) (bit_at-lt set (b + 1)))
+    grind (arith, common_steps, xor_bit, next_low-fits, bit_at, halved, bit_at-suc)

@@ -1,9 +1,8 @@
 -- The classes that end at some bytes, and the bytes of which each is the first.
 use Rattle.rx_spec.proofs.Prelude.{rules, ℕ, zero, suc, ◌≡◌, ◌≢◌, ◌+◌, ◌-◌, ◌^◌, ◌<◌, ◌≤◌, refl, sym, ◌∙◌, ap, ap₂}
-use Rattle.rx_spec.proofs.Prelude.{arith, inl, inr, add-one, Bool, true, false, ◌==◌, ◌||◌, not, nat_le, cond, bit_or}
-use Rattle.rx_spec.proofs.Prelude.{List, ◌∷◌, length, get_or, replicate, common_steps, or_assoc, eq-eqb, nat_tests}
-use Rattle.rx_spec.proofs.Prelude.{eqb_tells, get_or-replicate, length-replicate, contains, only, between, class_by}
-use Rattle.rx_spec.proofs.Prelude.{parts, least_exponent}
+use Rattle.rx_spec.proofs.Prelude.{arith, inl, inr, add-one, Bool, true, false, ◌==◌, ◌||◌, not, cond, bit_or, List}
+use Rattle.rx_spec.proofs.Prelude.{◌∷◌, length, get_or, replicate, common_steps, nat_tests, eqb_tells, get_or-replicate}
+use Rattle.rx_spec.proofs.Prelude.{contains, only, between, class_by, parts, least_exponent}
 use Rattle.rx_spec.specs.Classes.{begins_class}
 use Rattle.rx_base.specs.ByteClasses.{AreClasses, ends_of, alphabet_len, bytes_from, representatives_from}
 use Rattle.rx_base.specs.ByteClasses.{elements_from}
@@ -42,7 +41,7 @@ class_by-alike ends others (suc b) h =
 -- ---- the list of all classes
 module _ (ends : ℕ → Bool) (classes : List ℕ) (by : (b : ℕ) → b < 256 → get_or classes b 0 ≡ class_by ends b) where
   pub AreClasses-class_by : length classes ≡ 256 → AreClasses classes
-  AreClasses-class_by count = grind (arith, common_steps, class_by-zero, class_by-next, one_or_none)
+  AreClasses-class_by count = grind (arith, common_steps, class_by-zero, class_by-next)
 
 -- such a list has the classes that end where it rises
 pub ends_of-class : (classes : List ℕ) → AreClasses classes → (b : ℕ) → b < 256
@@ -68,17 +67,13 @@ ends_of-class classes are (suc b) h =
     rises_by_one m n low high ne = omega arith
 
 -- ---- the bytes from one on that pass a test
-bytes_from-cons : (test : ℕ → Bool) (at : ℕ) → at < 256
-    → bytes_from test at ≡ cond (test at) (at ∷ bytes_from test (at + 1)) (bytes_from test (at + 1))
-bytes_from-cons test at h = grind (arith, common_steps)
-
 pub bytes_from-pass : (test : ℕ → Bool) (at : ℕ) → at < 256 → test at ≡ true
     → bytes_from test at ≡ at ∷ bytes_from test (at + 1)
-bytes_from-pass test at h e = grind (arith, common_steps, bytes_from-cons)
+bytes_from-pass test at h e = grind (arith, common_steps)
 
 pub bytes_from-skip : (test : ℕ → Bool) (at : ℕ) → at < 256 → test at ≡ false
     → bytes_from test at ≡ bytes_from test (at + 1)
-bytes_from-skip test at h e = grind (arith, common_steps, bytes_from-cons)
+bytes_from-skip test at h e = grind (arith, common_steps)
 
 -- ---- one class of all bytes, and the classes of single bytes
 abbrev pub zeros : List ℕ
@@ -88,35 +83,31 @@ pub zero_at : (b : ℕ) → b < 256 → get_or zeros b 0 ≡ 0
 zero_at b h = get_or-replicate 256 b 0 0 h
 
 pub AreClasses-zeros : AreClasses zeros
-AreClasses-zeros = search (rules, length-replicate, zero_at)
+AreClasses-zeros = search (rules, zero_at)
 
 -- ---- what the iterators have left, from one byte to the next
 pub elements_from-pass : (classes : List ℕ) (class at : ℕ) → at < 256 → get_or classes at 0 ≡ class
     → elements_from classes class at ≡ at ∷ elements_from classes class (at + 1)
-elements_from-pass classes class at h e = grind (arith, common_steps, bytes_from-pass, eq-eqb)
+elements_from-pass classes class at h e = grind (arith, common_steps, bytes_from-pass)
 
 pub elements_from-skip : (classes : List ℕ) (class at : ℕ) → at < 256 → get_or classes at 0 ≢ class
     → elements_from classes class at ≡ elements_from classes class (at + 1)
 elements_from-skip classes class at h ne = grind (arith, common_steps, nat_tests, bytes_from-skip)
 
--- the end mark is left as long as a byte is
-eoi_left : (at : ℕ) → at < 256 → nat_le at 256 ≡ nat_le (at + 1) 256
-eoi_left at h = grind (arith, common_steps, nat_tests)
-
 pub representatives_from-pass : (classes : List ℕ) (at : ℕ) → at < 256 → begins_class (ends_of classes) at ≡ true
     → representatives_from classes at ≡ at ∷ representatives_from classes (at + 1)
-representatives_from-pass classes at h e = grind (arith, common_steps, bytes_from-pass, eoi_left)
+representatives_from-pass classes at h e = grind (arith, common_steps, bytes_from-pass)
 
 pub representatives_from-skip : (classes : List ℕ) (at : ℕ) → at < 256 → begins_class (ends_of classes) at ≡ false
     → representatives_from classes at ≡ representatives_from classes (at + 1)
-representatives_from-skip classes at h e = grind (arith, common_steps, bytes_from-skip, eoi_left)
+representatives_from-skip classes at h e = grind (arith, common_steps, bytes_from-skip)
 
 -- ---- the bytes that end a class, once a range is told apart
 module _ (old ends : ℕ) where
   pub ends-with_range : (first last b : ℕ) → first ≤ last → last < 256
       → contains ends b ≡ (contains old b || (b + 1 == first))
       → contains (bit_or ends (only last)) b ≡ (contains old b || parts (contains (between first last)) b (b + 1))
-  ends-with_range first last b ordered fits before = grind (arith, common_steps, contains-add, or_assoc, parts-between)
+  ends-with_range first last b ordered fits before = grind (arith, common_steps, contains-add, parts-between)
 
 -- ---- the least exponent
 pub least_exponent-next : (len k more : ℕ) → 2 ^ k < len → 0 < more
@@ -132,10 +123,6 @@ least_exponent-here len k (suc more) h = grind (arith, common_steps, nat_tests)
 
 pub alphabet_len-le : (classes : List ℕ) → AreClasses classes → alphabet_len classes ≤ 257
 alphabet_len-le classes are = grind (arith, common_steps, ends_of-class, class_by-le)
-
--- an exponent that is too small is below 9
-pub exponent-below : (len k : ℕ) → k ≤ 9 → 2 ^ k < len → len ≤ 257 → k < 9
-exponent-below len k h less most = grind (arith, common_steps)
 
 -- ---- classes that are read byte by byte
 pub record RiseBelow (classes : List ℕ) (n : ℕ) : Type 0 where

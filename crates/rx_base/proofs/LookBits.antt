@@ -1,7 +1,7 @@
 -- A set of assertions with one bit changed, how many it has, and the assertions of Unicode words in it.
 use Rattle.rx_spec.proofs.Prelude.{common_steps, [], ℕ, zero, suc, ◌≡◌, ◌≢◌, ◌+◌, ◌-◌, ◌*◌, ◌^◌, ◌/◌, ◌%◌, ◌<◌, refl}
 use Rattle.rx_spec.proofs.Prelude.{sym, ◌∙◌, ap, subst, arith, List, ◌∷◌, get_or, bit_or, bit_and, Bool, true, false}
-use Rattle.rx_spec.proofs.Prelude.{◌==◌, w32, cond, bit_at, or_lt, one_shl, sum_by-cons, is_unicode_word, false≢true}
+use Rattle.rx_spec.proofs.Prelude.{◌==◌, w32, cond, bit_at, or_lt, one_shl, sum_by-cons}
 use Rattle.std.specs.Int.Count.{ones}
 use Rattle.std.specs.List.{count_by}
 use Rattle.std.proofs.lemmas.Nat.{ones_cat, pow_below, shr-shr, shr_split}
@@ -93,7 +93,7 @@ swapped : (a b c d : ℕ) → a ≡ b + c → c ≡ d → a ≡ d + b
 swapped a b c d p q = omega arith
 
 ones-up : (n k i : ℕ) → n / 2 ^ i < 2 ^ k → ones (n / 2 ^ i) ≡ count_by (held n) (up i k)
-ones-up n zero i h = grind (arith, common_steps, ones-bit)
+ones-up n zero i h = grind (arith, common_steps)
 ones-up n (suc k) i h =
     let m = n / 2 ^ i in
     let first = cond (held n i) 1 0 in
@@ -120,33 +120,3 @@ word_looks =
 -- none of the first few is in the set
 abbrev pub NoneOfFirst : ℕ → ℕ → Type 0
 NoneOfFirst set n = (k : ℕ) → k < n → holds_look set (get_or word_looks k Look.WordUnicode) ≡ false
-
-abbrev pub HasWordLook : ℕ → Type 0
-HasWordLook set = (look : Look) × (is_unicode_word look ≡ true) × (holds_look set look ≡ true)
-
-word_look_at : (k : ℕ) → is_unicode_word (get_or word_looks k Look.WordUnicode) ≡ true
-word_look_at zero = refl
-word_look_at (suc zero) = refl
-word_look_at (suc (suc zero)) = refl
-word_look_at (suc (suc (suc zero))) = refl
-word_look_at (suc (suc (suc (suc zero)))) = refl
-word_look_at (suc (suc (suc (suc (suc zero))))) = refl
-word_look_at (suc (suc (suc (suc (suc (suc k)))))) = refl
-
-pub has_word_look : (set k : ℕ) → holds_look set (get_or word_looks k Look.WordUnicode) ≡ true → HasWordLook set
-has_word_look set k h = (get_or word_looks k Look.WordUnicode, word_look_at k, h)
-
-abbrev IsPlace : Look → Type 0
-IsPlace look = (k : ℕ) × (k < 6) × (get_or word_looks k Look.WordUnicode ≡ look)
-
-place_of : (look : Look) → is_unicode_word look ≡ true → IsPlace look
-place_of Look.WordUnicode u = (0, omega arith, refl)
-place_of Look.WordUnicodeNegate u = (1, omega arith, refl)
-place_of Look.WordStartUnicode u = (2, omega arith, refl)
-place_of Look.WordEndUnicode u = (3, omega arith, refl)
-place_of Look.WordStartHalfUnicode u = (4, omega arith, refl)
-place_of Look.WordEndHalfUnicode u = (5, omega arith, refl)
-place_of _ u = absurd (false≢true u)
-
-pub no_word_look : (set : ℕ) → NoneOfFirst set 6 → HasWordLook set → false ≡ true
-no_word_look set none has = grind (arith, common_steps, place_of)

@@ -1,18 +1,12 @@
 -- A sparse table that is built can be written and read again.
-use Rattle.rx_spec.proofs.Prelude.{◌^◌, ◌<◌, ◌≤◌, sym, ap, subst, max_id, Nfa}
-use Rattle.rx_dense.specs.Layouts.{Layout as Dense}
+use Rattle.rx_spec.proofs.Prelude.{◌^◌, ◌<◌, sym, ap, subst, Nfa}
 use Rattle.rx_build.specs.Settings.{Settled}
-use Rattle.rx_built_images.specs.Finished.{IsFinished}
 use Rattle.rx_built_images.proofs.BuiltTables as dense
 use Rattle.rx_built_images.proofs.Whole as finished
 use Rattle.rx_sparse.specs.Layouts.{Stored}
-use Rattle.rx_sparse.specs.Sparse.{sparse_len, sparse_of}
 use Rattle.rx_sparse_build.specs.Built.{IsSparse}
 use Rattle.rx_sparse_image.specs.Tested.{IsWhole}
 use Rattle.rx_built_images.proofs.SparseWhole.{whole}
-
-pub finished_whole : (l : Dense) → IsFinished l → sparse_len l ≤ max_id → IsWhole (sparse_of l)
-finished_whole l is short = whole l (finished.whole l is) short
 
 pub built_whole : (s : Settled) (nfa : Nfa) (t : Stored) → s.quit < 2 ^ 256 → IsSparse s nfa t → IsWhole t.layout
 built_whole s nfa t few is =

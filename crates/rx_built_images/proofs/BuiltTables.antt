@@ -8,15 +8,11 @@ use Rattle.rx_build.specs.Settings.{Settled}
 use Rattle.rx_dense_image.specs.Images.{IsWhole}
 use Rattle.rx_built_images.proofs.Whole.{whole}
 
--- sets of bytes have no bit past the last byte
-high_bytes : between 128 255 < 2 ^ 256
-high_bytes = omega arith
-
 pub few_quits : (nfa : Nfa) (quit : ℕ) (heuristic : Bool) → quit < 2 ^ 256 → quit_set nfa quit heuristic < 2 ^ 256
 few_quits nfa quit heuristic few = by_test (heuristic && has_unicode_word nfa)
   where
     by_test : (b : Bool) → (if b then bit_or quit (between 128 255) else quit) < 2 ^ 256
-    by_test true = or_lt 256 quit (between 128 255) few high_bytes
+    by_test true = or_lt 256 quit (between 128 255) few (omega arith)
     by_test false = few
 
 pub built_whole : (s : Settled) (nfa : Nfa) (l : Layout) → s.quit < 2 ^ 256 → IsShaped l

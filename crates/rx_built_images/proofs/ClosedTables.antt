@@ -1,7 +1,7 @@
 -- A table that is ready passes what must hold of all parts of an image together.
-use Rattle.rx_spec.proofs.Prelude.{common_steps, ◌≡◌, ℕ, ◌<◌, ◌||◌, Bool, true, false, leb, eqb, Option, Some, None}
-use Rattle.rx_spec.proofs.Prelude.{List, [], length, get_or, slice_index, refl, sym, ap, subst, ◌∙◌, arith, inl, inr}
-use Rattle.rx_spec.proofs.Prelude.{IfSome, if◌then◌else◌, list_all, bytes_eq, eq-eqb, eqb-true, and_from, cases_Bool}
+use Rattle.rx_spec.proofs.Prelude.{common_steps, ◌≡◌, ℕ, ◌<◌, ◌||◌, Bool, true, false, eqb, Option, Some, None, List}
+use Rattle.rx_spec.proofs.Prelude.{[], length, get_or, slice_index, refl, sym, ap, subst, ◌∙◌, arith, inl, inr, IfSome}
+use Rattle.rx_spec.proofs.Prelude.{if◌then◌else◌, list_all, bytes_eq, eq-eqb, eqb-true, and_from, cases_Bool}
 use Rattle.rx_spec.proofs.Prelude.{bytes_eq-Decides, id_of, row_of, Label, leaving}
 use Rattle.std.proofs.lemmas.List.Folds.{list_any_at}
 use Rattle.rx_search.specs.Starts.{IsId}
@@ -9,13 +9,13 @@ use Rattle.rx_dense.specs.Specials.{is_accel_id}
 use Rattle.rx_dense.proofs.Rows.{id_at_row}
 use Rattle.rx_dense_image.proofs.IdTables.{dead_is, leaving_same, quit_is, quit_some}
 use Rattle.rx_order.proofs.KindNumbers.{at_most}
-use Rattle.rx_sparse.specs.Rows.{Row, next_among, next_ids, no_range, no_row, offsets_from}
+use Rattle.rx_sparse.specs.Rows.{Row, next_among, next_ids, no_range, no_row}
 use Rattle.rx_sparse.specs.Layouts.{Layout, ids_of, label_of_row, next_id, row_at, row_count, table_of}
 use Rattle.rx_sparse.specs.Facts.{offset_at}
 use Rattle.rx_sparse.proofs.RowPlaces.{each_next, next_on_byte, next_row_is_id}
 use Rattle.rx_sparse_image.specs.Closing as closing
-use Rattle.rx_sparse_image.specs.Closing.{are_special_rows, each_row, has_needles, is_closed, is_row_id, is_start_row}
-use Rattle.rx_sparse_image.specs.Closing.{is_universal, leads_on, row_stands, rows_stand, starts_stand}
+use Rattle.rx_sparse_image.specs.Closing.{has_needles, is_closed, is_row_id, is_start_row, is_universal, leads_on}
+use Rattle.rx_sparse_image.specs.Closing.{row_stands, rows_stand}
 use Rattle.rx_sparse_image.proofs.EachRow.{each_passes}
 use Rattle.rx_sparse_image.proofs.LeavingBytes.{leaving_is}
 use Rattle.rx_order.proofs.UsedColumns.{class_used}
@@ -25,14 +25,6 @@ use Rattle.rx_built_images.proofs.Ready.{IsReady, next_is_id, table, zero_of}
 use Rattle.rx_built_images.proofs.StartEntries.{entry_at, plain_passes}
 
 -- ---- tests
-
--- each row passes at its offset
-each_of : (test : ℕ → Row → Bool) (at : ℕ) (rows : List Row)
-    → ((row : ℕ) → row < length rows → test (id_of (offsets_from at rows) row) (get_or rows row no_row) ≡ true)
-    → each_row test at rows ≡ true
-each_of test at rows h =
-    each_passes test at rows
-    (λ row lt. subst (λ n. test n (get_or rows row no_row) ≡ true) (offset_at at rows row lt) (h row lt))
 
 -- what is asked only where a test holds
 asked_if : (b c : Bool) → (b ≡ true → c ≡ true) → (if b then c else true) ≡ true
@@ -122,14 +114,13 @@ module _ (l : Layout) (ready : IsReady l) where
   -- there are two rows at least, quit is the second, and each passes
   rows_pass : rows_stand l ≡ true
   rows_pass =
-      let two : leb 2 (row_count l) ≡ true = at_most 2 (row_count l) ready.shaped.rows.two in
-      let quit : eqb l.special.quit (id_of (ids_of l) 1) ≡ true = eq-eqb _ _ ready.second in
-      rw (two, quit, each_of (row_stands l) 0 l.rows row_passes) refl
-
-  -- ---- special rows
-
-  special_pass : are_special_rows l l.special ≡ true
-  special_pass = grind (arith, common_steps, row_id_passes)
+      rw (
+        at_most 2 (row_count l) ready.shaped.rows.two,
+        eq-eqb _ _ ready.second,
+        each_passes (row_stands l) 0 l.rows
+            (λ row lt. subst (λ n. (row_stands l) n (get_or l.rows row no_row) ≡ true) (offset_at 0 l.rows row lt)
+            (row_passes row lt)),
+      ) refl
 
   -- ---- start rows
 
@@ -138,24 +129,31 @@ module _ (l : Layout) (ready : IsReady l) where
   start_passes k lt =
       let id : ℕ = slice_index l.starts k in
       let row : ℕ = row_of (ids_of l) id in
-      let is : IsId (ids_of l) id = ready.shaped.starts.start_ids k lt in
-      let same : id_of (ids_of l) row ≡ id = id_at_row (ids_of l) id is in
+      let same : id_of (ids_of l) row ≡ id = id_at_row (ids_of l) id (ready.shaped.starts.start_ids k lt) in
       let e = entry_at l.starts k lt in
       let plain : label_of_row l.special id (row_at l row) ≡ Label.Plain =
       ap (λ (n : ℕ). label_of_row l.special n (row_at l row)) (sym same)
       ∙ ap (λ (n : ℕ). (table_of l).machine.label (row_of (ids_of l) n)) (sym e.is)
       ∙ ready.sound.starts_plain e.mode e.start in
       plain_passes l.special id (row_at l row).patterns (is_row_id l id) (quit_some (table l ready))
-      (row_id_passes id is) plain
+      (row_id_passes id (ready.shaped.starts.start_ids k lt)) plain
 
   universal_passes : (o : Option ℕ) → IfSome o (IsId (ids_of l)) → is_universal l o ≡ true
   universal_passes None is = refl
   universal_passes (Some id) is = row_id_passes id is
 
-  starts_pass : starts_stand l ≡ true
-  starts_pass = grind (arith, common_steps, and_from, all_places, start_passes, universal_passes)
-
   -- ---- all together
 
   pub closed : is_closed (length l.rows) l ≡ true
-  closed = grind (arith, common_steps, eq-eqb, and_from, rows_pass, special_pass, starts_pass)
+  closed =
+      grind (
+        arith,
+        common_steps,
+        eq-eqb,
+        and_from,
+        rows_pass,
+        row_id_passes,
+        all_places,
+        start_passes,
+        universal_passes,
+      )

@@ -1,16 +1,10 @@
 -- Kinds of rows, labels and ranges of ids, by the tests that tell them.
-use Rattle.rx_spec.proofs.Prelude.{common_steps, ◌≡◌, ◌≢◌, ℕ, ◌*◌, ◌≤◌, Bool, true, false, ◌||◌, List, refl, arith}
-use Rattle.rx_spec.proofs.Prelude.{if◌then◌else◌, cases_eq, or-true, Label, is_match}
-use Rattle.rx_dense.specs.Specials.{is_match_id}
-use Rattle.rx_dense.specs.Layouts.{Layout, stride, table_of}
-use Rattle.rx_order.proofs.KindNumbers.{at_most, high_kind, label_match}
+use Rattle.rx_spec.proofs.Prelude.{common_steps, ◌≡◌, ◌≢◌, ℕ, ◌≤◌, Bool, true, false, ◌||◌, List, refl, arith}
+use Rattle.rx_spec.proofs.Prelude.{if◌then◌else◌, cases_eq, or-true, Label}
+use Rattle.rx_order.proofs.KindNumbers.{at_most, high_kind}
 use Rattle.rx_dense_image.specs.Marks.{begins_after}
 
 -- ---- labels
-
--- a row matches where its id is in the range of match rows
-pub match_is : (l : Layout) (row : ℕ) → is_match (table_of l) row ≡ is_match_id l.special (row * stride l)
-match_is l row = grind (arith, common_steps, label_match)
 
 -- a plain row neither matches nor quits
 pub plain_matches : (m q : Bool) (ks : List ℕ)

@@ -19,7 +19,6 @@ pub range_at : (l : Layout) (first last : ℕ) → IsRange l first last → (i :
     → IsRowAt l first last i (first / stride l + i)
 range_at l first last (inl (none, last_none)) i lt = grind (arith, common_steps, eq-eqb)
 range_at l first last (inr (past, le, is_first, is_last)) i lt =
-    let s : ℕ = stride l in
     let some : 0 < stride l = pow_pos l.stride2 in
     let q : ℕ = first / stride l in
     let p : ℕ = last / stride l in
@@ -32,20 +31,16 @@ range_at l first last (inr (past, le, is_first, is_last)) i lt =
     (ne_eqb first 0 (λ e. absurd (omega (arith, past, e))))
     ∙ ap (λ (n : ℕ). n + 1)
     (ap₂ (λ (x y : ℕ). (x - y) / stride l) (sym last_is) (sym first_is) ∙ place_from q p (stride l) some rises) in
-    let upto : q + i ≤ p = omega (arith, lt, len, rises) in
-    let same : stride l ≤ stride l = omega arith in
-    let most = mul-le (q + i) (stride l) p (stride l) upto same in
+    let most = mul-le (q + i) (stride l) p (stride l) (omega (arith, lt, len, rises)) (omega arith) in
     let id : (q + i) * stride l ≡ first + i * stride l = omega (arith, first_is) in
-    let back : q + i - q ≡ i = omega arith in
-    let from_first : q ≤ q + i = omega arith in
     record {
       id = id;
-      below = omega (arith, upto, row-below l last is_last);
+      below = omega (arith, lt, len, rises, row-below l last is_last);
       within =
           within_range first last ((q + i) * stride l) (omega (arith, id)) (omega (arith, most, last_is))
-          (omega (arith, id, past));
+          (omega (arith, id, past, stride l));
       place =
           ap (λ (x : ℕ). ((q + i) * stride l - x) / stride l) (sym first_is)
-          ∙ place_from q (q + i) (stride l) some from_first
-          ∙ back;
+          ∙ place_from q (q + i) (stride l) some (omega arith)
+          ∙ (omega arith);
     }

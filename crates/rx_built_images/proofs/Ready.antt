@@ -9,7 +9,7 @@ use Rattle.rx_dense_image.proofs.IdTables.{IdTable, named_is}
 use Rattle.rx_sparse.proofs.RowPlaces.{each_next}
 use Rattle.rx_sparse_image.proofs.RowIds.{id_table}
 use Rattle.rx_sparse.specs.Rows.{next_ids}
-use Rattle.rx_sparse.specs.Layouts.{IsRow, IsShaped, Layout, ids_of, row_at, row_count}
+use Rattle.rx_sparse.specs.Layouts.{IsShaped, Layout, ids_of, row_at, row_count}
 use Rattle.rx_sparse.specs.Facts.{IsSoundLayout}
 use Rattle.rx_sparse_image.proofs.ClosedRows.{AreSpecialRows}
 
@@ -41,8 +41,7 @@ module _ (l : Layout) (ready : IsReady l) where
   pub next_is_id : (row : ℕ) → row < row_count l → (i : ℕ) → i < length (next_ids (row_at l row))
       → IsId (ids_of l) (slice_index (next_ids (row_at l row)) i)
   next_is_id row h =
-      let is : IsRow l row = ready.shaped.rows.rows row h in
-      each_next (IsId (ids_of l)) (row_at l row) is.nexts is.eoi
+      each_next (IsId (ids_of l)) (row_at l row) (ready.shaped.rows.rows row h).nexts (ready.shaped.rows.rows row h).eoi
 
   -- an id whose row is dead is 0
   pub zero_of : (id : ℕ) → IsId (ids_of l) id → row_of (ids_of l) id ≡ 0 → id ≡ 0

@@ -1,9 +1,7 @@
 -- A dense table that can be read has a sparse table that can be read, where that isn't too long.
-use Rattle.rx_spec.proofs.Prelude.{◌≡◌, ℕ, ◌*◌, ◌/◌, ◌≤◌, sym, ap, subst, ◌∙◌, arith, mul-div_cancel, pow_pos, max_id}
-use Rattle.rx_spec.proofs.Prelude.{id_of}
+use Rattle.rx_spec.proofs.Prelude.{◌≡◌, ℕ, ◌/◌, ◌≤◌, sym, ap, subst, ◌∙◌, arith, mul-div_cancel, pow_pos, max_id, id_of}
 use Rattle.rx_search.specs.Starts.{IsId}
 use Rattle.rx_dense.specs.Builder.{renamed_id}
-use Rattle.rx_dense.specs.Facts.{IsSoundLayout}
 use Rattle.rx_dense.specs.Layouts.{IsRowId, IsShaped, Layout as Dense, stride}
 use Rattle.rx_dense_image.specs.Images.{IsWhole as IsWholeDense}
 use Rattle.rx_dense_image.proofs.ClosedFacts as dense_closed
@@ -24,9 +22,6 @@ module _ (l : Dense) (is : IsWholeDense l) (short : sparse_len l ≤ max_id) whe
   shaped : IsShaped l
   shaped = dense_shaped.shaped l is
 
-  sound : IsSoundLayout l
-  sound = dense_sound.sound l is
-
   special : AreSpecialRows l
   special = special_rows l is
 
@@ -36,21 +31,16 @@ module _ (l : Dense) (is : IsWholeDense l) (short : sparse_len l ≤ max_id) whe
       subst (λ ids. IsId ids (renamed_id l (offsets_of l) id)) (sym (ids_same l shaped.rows))
       (renamed_is_id l shaped.rows id row)
 
-  -- quit is the second row
-  second : (sparse_of l).special.quit ≡ id_of (ids_of (sparse_of l)) 1
-  second =
-      let one : 1 * stride l ≡ stride l = omega arith in
-      let row : l.special.quit / stride l ≡ 1 =
-      ap (λ (n : ℕ). n / stride l) ((dense_closed.closed l is.closed).special.quit ∙ sym one)
-      ∙ mul-div_cancel 1 (pow_pos l.stride2) in
-      ap (id_of (offsets_of l)) row ∙ sym (ap (λ ids. id_of ids 1) (ids_same l shaped.rows))
-
   -- its sparse table is ready to be written
   ready : IsReady (sparse_of l)
   ready = record {
-    shaped = sparse_shaped l shaped sound special short;
-    sound = sparse_sound l shaped special sound;
-    second = second;
+    shaped = sparse_shaped l shaped (dense_sound.sound l is) special short;
+    sound = sparse_sound l shaped special (dense_sound.sound l is);
+    second =
+        let row : l.special.quit / stride l ≡ 1 =
+        ap (λ (n : ℕ). n / stride l) ((dense_closed.closed l is.closed).special.quit ∙ sym (omega arith))
+        ∙ mul-div_cancel 1 (pow_pos l.stride2) in
+        ap (id_of (offsets_of l)) row ∙ sym (ap (λ ids. id_of ids 1) (ids_same l shaped.rows));
     rows = record {
       max = is_id l.special.max special.max;
       min_match = is_id l.special.min_match special.min_match;

@@ -25,18 +25,16 @@ pub record IsEntryAt (starts : List ℕ) (k : ℕ) : Type 0 where
 
 pub entry_at : (starts : List ℕ) (k : ℕ) → k < length starts → IsEntryAt starts k
 entry_at starts k lt =
-    let number : k % 6 < 6 = omega arith in
     let mode : Anchored = mode_of (mode_at (k / 6)) in
     let start : Start = context_at (k % 6) in
     let place : mode_place mode + context_number start ≡ k =
-    omega (arith, mode_at-place (k / 6), context_at-number (k % 6) number) in
-    let has : mode_place mode < length starts = omega (arith, mode_at-place (k / 6), lt) in
+    omega (arith, mode_at-place (k / 6), context_at-number (k % 6) (omega arith)) in
     record {
       mode = mode;
       start = start;
       is =
           ap (λ (b : Bool). if b then slice_index starts (mode_place mode + context_number start) else 0)
-          (lt-ltb (mode_place mode) (length starts) has)
+          (lt-ltb (mode_place mode) (length starts) (omega (arith, mode_at-place (k / 6), lt)))
           ∙ ap (slice_index starts) place;
     }
 
@@ -51,6 +49,5 @@ plain_passes s id ks is_id some passes plain =
     let no_quit = false_from_ne_true (eqb id s.quit)
     (λ q.
     let other : eqb id 0 ≡ false = ne_eqb id 0 (λ z. absurd (omega (arith, z, eqb-true _ _ q, some))) in
-    let quits : is_quit_id s id ≡ true = rw (q, other) refl in
-    plain_quits (is_match_id s id) (is_quit_id s id) ks plain quits) in
+    plain_quits (is_match_id s id) (is_quit_id s id) ks plain (rw (q, other) refl)) in
     rw (passes, no_match, no_quit) refl

@@ -8,14 +8,13 @@ use Rattle.rx_search.specs.Starts.{IsId}
 use Rattle.rx_dense.specs.Specials.{is_accel_id, is_match_id, is_quit_id}
 use Rattle.rx_dense.proofs.Rows.{id_at_row}
 use Rattle.rx_dense_image.specs.Closing.{is_named}
-use Rattle.rx_dense_image.specs.StartTables.{IsAtMost, IsReadStartTable}
+use Rattle.rx_dense_image.specs.StartTables.{IsAtMost}
 use Rattle.rx_order.proofs.KindNumbers.{at_most}
 use Rattle.rx_sparse.specs.Rows.{Row, is_some_list, row_len, rows_len}
 use Rattle.rx_sparse.specs.Layouts.{IsRow, Layout, ids_of, row_at, row_count, table_of}
 use Rattle.rx_sparse.specs.Facts.{offset_at, rows_len-more}
 use Rattle.rx_sparse.proofs.RowLengths.{rows_len-take}
 use Rattle.rx_sparse.proofs.RowPlaces.{fits_row, id_few, id_small}
-use Rattle.rx_sparse_image.specs.Images.{start_table_of}
 use Rattle.rx_sparse_image.specs.Tested.{IsRead, IsTestedRow, bounds_in}
 use Rattle.rx_sparse_image.specs.Walks.{may_have}
 use Rattle.rx_sparse_image.proofs.Sizes.{rows_few}
@@ -110,16 +109,6 @@ module _ (l : Layout) (ready : IsReady l) where
   few_id None is = tt
   few_id (Some id) is = id_small l ready.shaped id is
 
-  table_read : IsReadStartTable (start_table_of l)
-  table_read = grind (arith, common_steps, few_starts, few_id)
-
-  -- the id of a row is no more than where its bytes end
-  within : (id : ℕ) → IsId (ids_of l) id → id < rows_len l.rows
-  within id is =
-      let row : ℕ = row_of (ids_of l) id in
-      let h : row < row_count l = row_below l id is in
-      omega (arith, id_at_row (ids_of l) id is, ends row h)
-
   -- each part can be read
   pub read : IsRead l
   read = record {
@@ -127,8 +116,10 @@ module _ (l : Layout) (ready : IsReady l) where
     few_patterns = (let few = ready.shaped.few_patterns in omega (arith, few));
     classes = ready.shaped.rows.classes;
     rows = record { each = tested_row; len = refl };
-    table = table_read;
+    table = grind (arith, common_steps, few_starts, few_id);
     special = ready.special;
-    within = within l.special.max ready.rows.max;
+    within =
+        let h : (row_of (ids_of l) l.special.max) < row_count l = row_below l l.special.max ready.rows.max in
+        omega (arith, id_at_row (ids_of l) l.special.max ready.rows.max, ends (row_of (ids_of l) l.special.max) h);
     quit = ready.quit;
   }

@@ -1,14 +1,14 @@
 -- What is known of a table in order makes a layout that can be written and read again.
-use Rattle.rx_spec.proofs.Prelude.{◌≡◌, true, refl, arith, IsSound, pow_pos}
+use Rattle.rx_spec.proofs.Prelude.{refl, arith, IsSound, pow_pos, and_from}
 use Rattle.rx_dense.specs.Layouts.{AreRows, Layout, table_of}
 use Rattle.rx_order.specs.RowOrder.{IsOrdered}
-use Rattle.rx_dense_image.specs.Closing.{is_closed}
+use Rattle.rx_dense_image.specs.Closing.{are_special_rows, are_named}
 use Rattle.rx_dense_image.specs.Images.{IsWhole}
 use Rattle.rx_built_images.specs.Finished.{IsFinished}
 use Rattle.rx_built_images.proofs.WholeAccels.{accels_closed, accels_read}
 use Rattle.rx_built_images.proofs.WholeLists.{lists_closed, lists_read}
 use Rattle.rx_built_images.proofs.WholeRows.{rows_closed, rows_read}
-use Rattle.rx_built_images.proofs.WholeSpecial.{special_closed, special_read}
+use Rattle.rx_built_images.proofs.WholeSpecial.{special_read, special_pass, named}
 use Rattle.rx_sparse_build.proofs.Ordered.{special_rows}
 use Rattle.rx_built_images.proofs.WholeStarts.{starts_closed, table_read}
 
@@ -21,17 +21,6 @@ module _ (l : Layout) (is : IsFinished l) where
 
   abbrev ordered : IsOrdered l
   ordered = is.in_order.ordered
-
-  closed : is_closed l ≡ true
-  closed =
-      rw (
-        rows_closed l rows sound,
-        special_closed l rows sound ordered,
-        starts_closed l is.shaped is.universal sound ordered.quit,
-        lists_closed l is.shaped sound ordered.matches is.joined,
-        accels_closed l rows sound ordered.accels is.counted ordered.quit,
-      )
-      refl
 
   pub whole : IsWhole l
   whole = record {
@@ -46,5 +35,14 @@ module _ (l : Layout) (is : IsFinished l) where
         quit = is.quit;
       };
     };
-    closed = closed;
+    closed =
+        rw (
+          rows_closed l rows sound,
+          and_from (are_special_rows l l.special) (are_named l) (special_pass l rows sound ordered)
+              (named l rows sound ordered),
+          starts_closed l is.shaped is.universal sound ordered.quit,
+          lists_closed l is.shaped sound ordered.matches is.joined,
+          accels_closed l rows sound ordered.accels is.counted ordered.quit,
+        )
+        refl;
   }

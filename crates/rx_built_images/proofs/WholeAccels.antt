@@ -35,24 +35,22 @@ module _ (l : Layout) (rows : AreRows l) (sound : IsSound (table_of l))
       (λ (b : Bool). if b then get_or l.accels (place_in_range l l.special.min_accel (row * stride l)) [] else [])
       at.within
       ∙ ap (λ (k : ℕ). get_or l.accels k []) at.place in
-      let len = ap length kept in
       record {
         id = at.id;
         below = at.below;
         are = sym kept ∙ sound.needles row at.below at.within;
-        some = omega (arith, len, sound.some_needle row at.below at.within);
-        few = omega (arith, len, sound.few_needles row at.below at.within);
+        some = omega (arith, ap length kept, sound.some_needle row at.below at.within);
+        few = omega (arith, ap length kept, sound.few_needles row at.below at.within);
       }
 
   needles_pass : (i : ℕ) → i < length l.accels → has_needles l i ≡ true
   needles_pass i lt =
       let h = needles_at i lt in
       let row : ℕ = l.special.min_accel / stride l + i in
-      let needles : List ℕ = get_or l.accels i [] in
       let leave : List ℕ = leaving_id l (l.special.min_accel + i * stride l) in
       let leaves = leaving_is l (row * stride l) ∙ leaving_same (id_table l rows quit) row h.below in
-      let same : needles ≡ leave = h.are ∙ sym leaves ∙ ap (leaving_id l) h.id in
-      rw (at_most _ _ h.some, at_most _ _ h.few, (bytes_eq-Decides needles leave).1 same) refl
+      let same : (get_or l.accels i []) ≡ leave = h.are ∙ sym leaves ∙ ap (leaving_id l) h.id in
+      rw (at_most _ _ h.some, at_most _ _ h.few, (bytes_eq-Decides (get_or l.accels i []) leave).1 same) refl
 
   pub accels_closed : accels_stand l ≡ true
   accels_closed = grind (arith, common_steps, and_from, eq-eqb, all_of, needles_pass)

@@ -11,7 +11,7 @@ use Rattle.rx_dense.proofs.RowKinds.{patterns_len}
 use Rattle.rx_order.specs.RowOrder.{AreJoined, IsRange, match_count, match_lists}
 use Rattle.rx_order.proofs.KindNumbers.{at_most}
 use Rattle.rx_dense_image.specs.PatternLists.{AreReadLists}
-use Rattle.rx_dense_image.specs.Closing.{is_list, lists_stand, range_len}
+use Rattle.rx_dense_image.specs.Closing.{is_list, lists_stand}
 use Rattle.rx_dense_image.specs.Images.{pattern_lists_of}
 use Rattle.rx_dense_image.proofs.ClosedFacts.{each_at}
 use Rattle.rx_dense_image.proofs.EachBelow.{all_of}
@@ -37,9 +37,6 @@ module _ (l : Layout) (shaped : IsShaped l) (sound : IsSound (table_of l)) (matc
 
   count : length l.slices ≡ 2 * match_count l
   count = grind (arith, common_steps, slices_len, length-map-range_with_len)
-
-  list_count : length l.slices / 2 ≡ range_len l l.special.min_match l.special.max_match
-  list_count = grind (arith, common_steps, count)
 
   row_at : (i : ℕ) → i < match_count l
       → IsRowAt l l.special.min_match l.special.max_match i (l.special.min_match / stride l + i)
@@ -75,23 +72,21 @@ module _ (l : Layout) (shaped : IsShaped l) (sound : IsSound (table_of l)) (matc
       begins_of first len all le other = omega (arith, le, other)
 
   pub lists_closed : lists_stand l ≡ true
-  lists_closed = grind (arith, common_steps, and_from, eq-eqb, list_count, all_of, list_passes, count)
+  lists_closed = grind (arith, common_steps, and_from, eq-eqb, all_of, list_passes, count)
 
   -- ---- read
 
   slice_word : (k : ℕ) → k < length l.slices → slice_index l.slices k < 2 ^ 32
   slice_word k lt =
       let i : ℕ = k / 2 in
-      let within : 2 * i + 1 < length l.slices = omega (arith, lt, lists.pairs) in
-      let ends = lists.within i within in
-      let few = lists.few in
+      let ends = lists.within i (omega (arith, lt, lists.pairs)) in
       elim (cases_eq (k % 2) 0) [
         | inl even ↦ (
             let same : 2 * i ≡ k = omega (arith, even) in
-            subst (λ (n : ℕ). slice_index l.slices n < 2 ^ 32) same (omega (arith, ends, few)))
+            subst (λ (n : ℕ). slice_index l.slices n < 2 ^ 32) same (omega (arith, ends, lists.few)))
         | inr odd ↦ (
             let same : 2 * i + 1 ≡ k = omega (arith, odd) in
-            subst (λ (n : ℕ). slice_index l.slices n < 2 ^ 32) same (omega (arith, ends, few)))
+            subst (λ (n : ℕ). slice_index l.slices n < 2 ^ 32) same (omega (arith, ends, lists.few)))
       ]
 
   -- each pattern id is that of a row
@@ -108,9 +103,8 @@ module _ (l : Layout) (shaped : IsShaped l) (sound : IsSound (table_of l)) (matc
       each i lt =
           let low : i < match_count l =
           omega (arith, lt, length-map-range_with_len (patterns_at l) 0 (match_count l)) in
-          let at : 0 + i ≡ i = omega arith in
           ap (list_all (λ pattern. ltb pattern l.pattern_len))
-          (get_or-map-range_with_len (patterns_at l) 0 (match_count l) i i [] low at)
+          (get_or-map-range_with_len (patterns_at l) 0 (match_count l) i i [] low (omega arith))
           ∙ (and_parts _ (list_all (λ pattern. ltb pattern l.pattern_len) (patterns_at l i)) (list_passes i low)).1
 
       all_concat : (p : ℕ → Bool) (xss : List (List ℕ))

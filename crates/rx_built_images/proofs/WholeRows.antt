@@ -5,21 +5,18 @@ use Rattle.rx_spec.proofs.Prelude.{mul-mod_left, cases_lt, eq-eqb, eqb-true, lt-
 use Rattle.rx_spec.proofs.Prelude.{div-add-mod', pow_pos, IsSound}
 use Rattle.std.proofs.Math.Nat.{div-le_self}
 use Rattle.rx_base.specs.ByteClasses.{alphabet_len}
-use Rattle.rx_dense.specs.Layouts.{AreRows, IsRowId, Layout, column, is_row_id, next_id, row_count, stride, table_of}
+use Rattle.rx_dense.specs.Layouts.{AreRows, IsRowId, Layout, column, is_row_id, stride, table_of}
 use Rattle.rx_dense.proofs.Rows.{quotient, stride_few}
 use Rattle.rx_order.proofs.KindNumbers.{at_most}
 use Rattle.rx_dense_image.specs.Rows.{AreReadRows, is_entry, rows_of}
-use Rattle.rx_dense_image.specs.Closing.{lead_to_dead, rows_stand}
+use Rattle.rx_dense_image.specs.Closing.{rows_stand}
 use Rattle.rx_dense_image.proofs.EachBelow.{all_of}
 use Rattle.rx_order.proofs.UsedColumns.{column_used}
 use Rattle.rx_built_images.proofs.Places.{all_places, low_dead, not_both, row_below}
 
 -- the id of a row passes the test
 pub row_id_passes : (l : Layout) (id : ℕ) → IsRowId l id → is_row_id l id ≡ true
-row_id_passes l id is =
-    let some = pow_pos l.stride2 in
-    let below = is.below in
-    rw (eq-eqb _ _ is.whole) (lt-ltb _ _ (omega arith))
+row_id_passes l id is = rw (eq-eqb _ _ is.whole) (lt-ltb _ _ (omega (arith, pow_pos l.stride2, is.below)))
 
 -- ---- read
 
@@ -44,21 +41,14 @@ module _ (l : Layout) (rows : AreRows l) (sound : IsSound (table_of l)) where
   some : 0 < stride l
   some = pow_pos l.stride2
 
-  row_of_place : (k : ℕ) → k < length l.words → k / stride l < row_count l
-  row_of_place k lt = row_below k (length l.words) (stride l) rows.whole lt
-
-  -- a word is what its row's column leads to
-  word_is : (k unit : ℕ) → column l unit ≡ k % stride l
-      → next_id l (k / stride l * stride l) unit ≡ slice_index l.words k
-  word_is k unit e = grind (arith, common_steps, div-add-mod')
-
   eoi_goes_on : (k : ℕ) → k < length l.words → k % stride l ≡ alphabet_len l.classes - 1
       → slice_index l.words k ≡ stride l → ⊥
   eoi_goes_on k lt last quits =
       let one : 1 * stride l ≡ stride l = omega arith in
       let is : column l 256 ≡ k % stride l = omega (arith, last) in
-      sound.eoi_goes_on (k / stride l) (row_of_place k lt)
-      (ap (λ (n : ℕ). n / stride l) (word_is k 256 is ∙ quits ∙ sym one) ∙ mul-div_cancel 1 some)
+      sound.eoi_goes_on (k / stride l) (row_below k (length l.words) (stride l) rows.whole lt)
+      (ap (λ (n : ℕ). n / stride l) ((grind (arith, common_steps, div-add-mod')) ∙ quits ∙ sym one) ∙ mul-div_cancel 1
+      some)
 
   entry : (k : ℕ) → k < length l.words → is_entry (rows_of l) k ≡ true
   entry k lt =
@@ -69,26 +59,33 @@ module _ (l : Layout) (rows : AreRows l) (sound : IsSound (table_of l)) where
 
   dead_word : (k : ℕ) → k < 2 * stride l → slice_index l.words k ≡ 0
   dead_word k low =
-      let two = rows.two in
-      let within : k < length l.words = omega (arith, two, low) in
       elim (cases_lt (k % stride l) (alphabet_len l.classes)) [
         | inl at ↦ (
-            let none : 0 * stride l ≡ 0 = omega arith in
             let unit = column_used l rows.classes (k % stride l) at in
             let row_low : k / stride l < 2 =
             subst (λ (n : ℕ). k / stride l < n) (mul-div_cancel 2 some)
             (row_below k (2 * stride l) (stride l) (mul-mod_left 2 (stride l)) low) in
             let led : slice_index l.words k / stride l ≡ 0 =
-            ap (λ (n : ℕ). n / stride l) (sym (word_is k unit.0 unit.2))
+            ap (λ (n : ℕ). n / stride l) (sym (grind (arith, common_steps, div-add-mod')))
             ∙ low_dead sound.is_table (k / stride l) unit.0 row_low unit.1 in
-            sym (quotient (slice_index l.words k) (stride l) (rows.next_ids k within).whole)
+            sym (quotient (slice_index l.words k) (stride l) (rows.next_ids k (omega (arith, rows.two, low))).whole)
             ∙ ap (λ (n : ℕ). n * stride l) led
-            ∙ none)
-        | inr past ↦ (rows.past_alphabet k within past)
+            ∙ (omega arith))
+        | inr past ↦ (rows.past_alphabet k (omega (arith, rows.two, low)) past)
       ]
 
-  dead_rows : lead_to_dead l ≡ true
-  dead_rows = grind (arith, common_steps, all_places, length-take, eq-eqb, get_or-take, dead_word)
-
   pub rows_closed : rows_stand l ≡ true
-  rows_closed = grind (arith, common_steps, at_most, and_from, all_of, entry, dead_rows)
+  rows_closed =
+      grind (
+        arith,
+        common_steps,
+        at_most,
+        and_from,
+        all_of,
+        entry,
+        all_places,
+        length-take,
+        eq-eqb,
+        get_or-take,
+        dead_word,
+      )

@@ -1,13 +1,13 @@
 -- The special ids of a table in order pass the tests of an image's special ids.
 use Rattle.rx_spec.proofs.Prelude.{common_steps, ◌≡◌, ◌≢◌, ℕ, ◌+◌, ◌*◌, ◌/◌, ◌<◌, ◌≤◌, true, false, refl, sym, ap, ◌∙◌}
-use Rattle.rx_spec.proofs.Prelude.{arith, inl, inr, max, and_parts, cases_lt, eq-eqb, lt-ltb, ne_eqb, and_from, le-div}
-use Rattle.rx_spec.proofs.Prelude.{mul-le, pow_pos, or-true, IsSound, is_match, is_match_label}
+use Rattle.rx_spec.proofs.Prelude.{arith, inl, inr, max, and_parts, cases_lt, eq-eqb, lt-ltb, ne_eqb, le-div, mul-le}
+use Rattle.rx_spec.proofs.Prelude.{pow_pos, or-true, IsSound, is_match, is_match_label}
 use Rattle.rx_dense.specs.declared.special.Special.{Special}
 use Rattle.rx_dense.specs.Specials.{greatest, is_in_range, is_start_id}
 use Rattle.rx_dense.specs.Layouts.{AreRows, IsRowId, Layout, is_row_id, row_count, stride, table_of}
 use Rattle.rx_dense.proofs.Rows.{multiple_within, quotient, row-below}
 use Rattle.rx_order.specs.RowOrder.{IsOrdered, IsRange, is_marked, is_start_row, kind_of}
-use Rattle.rx_order.proofs.KindNumbers.{at_most, high_kind, kind_high}
+use Rattle.rx_order.proofs.KindNumbers.{at_most, high_kind, kind_high, label_match}
 use Rattle.rx_order.proofs.MarkedRows.{start_row_plain}
 use Rattle.rx_dense_image.proofs.SpecialTests.{within_of}
 use Rattle.rx_dense_image.proofs.IdTables as by_ids
@@ -15,10 +15,9 @@ use Rattle.rx_dense_image.proofs.IdTables.{IdTable, id_table}
 use Rattle.rx_sparse.specs.Sparse.{AreSpecialRows}
 use Rattle.rx_sparse_build.proofs.Ordered.{special_rows}
 use Rattle.rx_dense_image.specs.Marks.{are_special, begins_after, is_past_quit, is_range}
-use Rattle.rx_dense_image.specs.Closing.{are_named, are_special_rows, is_named, special_stand}
+use Rattle.rx_dense_image.specs.Closing.{are_named, are_special_rows, is_named}
 use Rattle.rx_dense_image.proofs.EachBelow.{all_of}
-use Rattle.rx_built_images.proofs.KindTests.{accelerated_low, after_of, low_accelerated, low_matches, match_is}
-use Rattle.rx_built_images.proofs.KindTests.{matches_low}
+use Rattle.rx_built_images.proofs.KindTests.{accelerated_low, after_of, low_accelerated, low_matches, matches_low}
 use Rattle.rx_built_images.proofs.Places.{rows_rise}
 use Rattle.rx_built_images.proofs.WholeRows.{row_id_passes}
 
@@ -121,11 +120,12 @@ module _ (l : Layout) (rows : AreRows l) (sound : IsSound (table_of l)) (ordered
       let s : Special = l.special in
       after s.min_accel s.max_accel s.min_match s.max_match ordered.accels ordered.matches
       (λ x y a m le less.
-      let matches = matches_before x y a.behind le m.below (match_is l y ∙ m.within) in
+      let matches = matches_before x y a.behind le m.below ((grind (arith, common_steps, label_match)) ∙ m.within) in
       omega (
         arith,
         less,
-        (within_of l.special.min_match l.special.max_match (x * stride l) (sym (match_is l x) ∙ matches)).from,
+        (within_of l.special.min_match l.special.max_match (x * stride l)
+            (sym (grind (arith, common_steps, label_match)) ∙ matches)).from,
         a.id,
       ))
 
@@ -134,7 +134,7 @@ module _ (l : Layout) (rows : AreRows l) (sound : IsSound (table_of l)) (ordered
       let s : Special = l.special in
       after s.min_start s.max_start s.min_match s.max_match ordered.starts ordered.matches
       (λ x y a m le less.
-      let matches = matches_before x y a.behind le m.below (match_is l y ∙ m.within) in
+      let matches = matches_before x y a.behind le m.below ((grind (arith, common_steps, label_match)) ∙ m.within) in
       let plain = start_plain x a.below a.within in
       cc)
 
@@ -143,8 +143,7 @@ module _ (l : Layout) (rows : AreRows l) (sound : IsSound (table_of l)) (ordered
       let s : Special = l.special in
       after s.min_start s.max_start s.min_accel s.max_accel ordered.starts ordered.accels
       (λ x y a m le less.
-      let plain = start_plain x a.below a.within in
-      let accelerated = accelerated_before x y a.behind le m.below m.within plain in
+      let accelerated = accelerated_before x y a.behind le m.below m.within (start_plain x a.below a.within) in
       omega (
         arith,
         less,
@@ -170,7 +169,7 @@ module _ (l : Layout) (rows : AreRows l) (sound : IsSound (table_of l)) (ordered
       )
       (at_most (greatest s) s.max (omega (arith, ordered.max)))
 
-  special_pass : are_special_rows l l.special ≡ true
+  pub special_pass : are_special_rows l l.special ≡ true
   special_pass =
       let s : Special = l.special in
       let passes : (id : ℕ) → IsRowId l id → is_row_id l id ≡ true = row_id_passes l in
@@ -188,24 +187,16 @@ module _ (l : Layout) (rows : AreRows l) (sound : IsSound (table_of l)) (ordered
 
   -- ---- each row up to the greatest special one is named
 
-  named_is : (row : ℕ) → row < row_count l → is_named l.special (row * stride l) ≡ (table_of l).is_special row
-  named_is row below = by_ids.named_is table row below ∙ sym (sound.special row below)
-
-  named : are_named l ≡ true
+  pub named : are_named l ≡ true
   named =
       all_of (l.special.max / stride l + 1) (λ row. is_named l.special (row * stride l))
       (λ row lt.
       let last : ℕ = l.special.max / stride l in
-      let same : stride l ≤ stride l = omega arith in
-      let le : row ≤ last = omega (arith, lt) in
       let low : row * stride l ≤ l.special.max =
       omega (
         arith,
-        mul-le row (stride l) last (stride l) le same,
+        mul-le row (stride l) last (stride l) (omega (arith, lt)) (omega arith),
         quotient l.special.max (stride l) ids.max.whole,
       ) in
-      let below : row < row_count l = omega (arith, le, row-below l l.special.max ids.max) in
-      named_is row below ∙ at_most (row * stride l) l.special.max low)
-
-  pub special_closed : special_stand l ≡ true
-  special_closed = and_from (are_special_rows l l.special) (are_named l) special_pass named
+      let below : row < row_count l = omega (arith, lt, row-below l l.special.max ids.max) in
+      (by_ids.named_is table row below ∙ sym (sound.special row below)) ∙ at_most (row * stride l) l.special.max low)

@@ -12,28 +12,19 @@ pub accel_lists_at : (words : List ℕ) (i : ℕ) → i < length (accel_lists wo
     → get_or (accel_lists words) i [] ≡ word_needles (slice_index words (2 * i))
 accel_lists_at words i h = grind (arith, common_steps, accel_lists_len, get_or-map-range_with_len)
 
-word_at : (words : List ℕ) (word rest : ℕ) → length words % 2 ≡ 0
-    → slice_index (words ++ word ∷ rest ∷ []) (2 * (length words / 2)) ≡ word
-word_at words word rest even = grind (arith, common_steps)
-
 -- two words more are the needles of one row more
 pub accel_lists_push : (words : List ℕ) (word rest : ℕ) → length words % 2 ≡ 0
     → accel_lists (words ++ word ∷ rest ∷ []) ≡ accel_lists words ++ word_needles word ∷ []
 accel_lists_push words word rest even =
-    let more : List ℕ = words ++ word ∷ rest ∷ [] in
-    let f = λ (i : ℕ). word_needles (slice_index more (2 * i)) in
+    let f = λ (i : ℕ). word_needles (slice_index (words ++ word ∷ rest ∷ []) (2 * i)) in
     let n = length words / 2 in
-    let count : length more ≡ length words + 2 = length-append words (word ∷ rest ∷ []) in
-    let half : length more / 2 ≡ n + 1 = omega arith in
-    let start : 0 + n ≡ n = omega arith in
+    let count : length (words ++ word ∷ rest ∷ []) ≡ length words + 2 = length-append words (word ∷ rest ∷ []) in
     let before : accel_lists words ≡ map f (range_with_len 0 n) =
     fill_by_all f (accel_lists words) n [] (accel_lists_len words)
     (λ k h.
-    let below : 2 * k < length words = omega arith in
     accel_lists_at words k (omega (arith, accel_lists_len words))
-    ∙ ap word_needles (sym (get_or_append_left words (word ∷ rest ∷ []) 0 (2 * k) below))) in
-    let last : f n ≡ word_needles word = ap word_needles (word_at words word rest even) in
-    ap (λ m. map f (range_with_len 0 m)) half
-    ∙ map-range_with_len_more f 0 n n start
+    ∙ ap word_needles (sym (get_or_append_left words (word ∷ rest ∷ []) 0 (2 * k) (omega arith)))) in
+    ap (λ m. map f (range_with_len 0 m)) (omega arith)
+    ∙ map-range_with_len_more f 0 n n (omega arith)
     ∙ ap (λ (xs : List (List ℕ)). xs ++ f n ∷ []) (sym before)
-    ∙ ap (λ (x : List ℕ). accel_lists words ++ x ∷ []) last
+    ∙ ap (λ (x : List ℕ). accel_lists words ++ x ∷ []) (ap word_needles (grind (arith, common_steps)))

@@ -10,6 +10,8 @@ pub mod Shaped
 pub mod Swaps
 -- rows that are renamed
 pub mod Renaming
+-- rows that are kept
+pub mod KeptRows
 -- lists of patterns
 pub mod PatternLists
 -- what is made ahead of the match rows

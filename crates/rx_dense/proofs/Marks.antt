@@ -1,6 +1,6 @@
 -- Marks of match rows: they stay true while they are made, and searches may go by them.
 use Rattle.rx_spec.proofs.Prelude.{common_steps, ◌≡◌, ◌∙◌, ℕ, ◌+◌, ◌-◌, ◌*◌, ◌/◌, ◌%◌, ◌^◌, ◌<◌, ◌≤◌, ◌==◌, true, List}
-use Rattle.rx_spec.proofs.Prelude.{[], ◌∷◌, ◌++◌, length, take, drop, slice_index, ap, sym, subst, arith, length-drop}
+use Rattle.rx_spec.proofs.Prelude.{[], ◌∷◌, ◌++◌, length, take, drop, slice_index, ap, sym, arith, length-drop}
 use Rattle.rx_spec.proofs.Prelude.{length-take-le, length-append, get_or, nat_lt, mul-div_cancel, zero-div, list_all}
 use Rattle.rx_spec.proofs.Prelude.{slice_range, get_or-drop, get_or-take, le-div, pow_pos, row_of, is_match}
 use Rattle.rx_base.specs.ByteClasses.{alphabet_len}
@@ -10,7 +10,7 @@ use Rattle.rx_search.proofs.Halves.{some_pattern}
 use Rattle.rx_dense.specs.Facts.{IsSoundLayout}
 use Rattle.rx_dense.specs.Layouts.{Layout, AreLists, AreRows, column, ids_of, place_in_range, stride, table_of}
 use Rattle.rx_dense.specs.Marks.{AreMarks, IsMark, first_pattern}
-use Rattle.rx_dense.proofs.RowKinds.{match_first, match_patterns, match_place, pattern_at, pattern_ids}
+use Rattle.rx_dense.proofs.RowKinds.{match_first, match_patterns, pattern_ids}
 use Rattle.rx_dense.proofs.Rows.{IsRowId-id, column_within, id-times, part_is, quotient, row-is_below}
 
 -- ---- while they are made
@@ -29,18 +29,14 @@ module _ (words : List ℕ) (alphabet_len stride min_match : ℕ) (slices patter
 
 -- ---- rows that lead to the dead row
 
-zero_each : (xs : List ℕ) → list_all (λ id. id == 0) xs ≡ true → (k : ℕ) → k < length xs → slice_index xs k ≡ 0
-zero_each xs all k below = grind (arith, common_steps)
-
 pub zeros_from : (words : List ℕ) (first len : ℕ) → first + len ≤ length words
     → list_all (λ id. id == 0) (slice_range words first (first + len)) ≡ true
     → (k : ℕ) → k < len → slice_index words (first + k) ≡ 0
 zeros_from words first len fits all k below =
     let part = take len (drop first words) in
-    let count : length part ≡ len = length-take-le len (drop first words) (simp length-drop (omega arith)) in
     let zeros = rw (part_is words first len) at all in
     sym (get_or-take len (drop first words) k 0 below ∙ get_or-drop first words k 0)
-    ∙ zero_each part zeros k (omega arith)
+    ∙ (grind (arith, common_steps, length-take-le len (drop first words) (simp length-drop (omega arith))))
 
 -- ---- what they say to a search
 
@@ -48,15 +44,12 @@ zeros_from words first len fits all k below =
 from_first : (s first id : ℕ) → 0 < s → first % s ≡ 0 → id % s ≡ 0 → first ≤ id → first + (id - first) / s * s ≡ id
 from_first s first id some whole_first whole order =
     let a = quotient id s whole in
-    let b = quotient first s whole_first in
     let below : first / s ≤ id / s = le-div (first / s) id s some (omega arith) in
     let joined : id / s - first / s + first / s ≡ id / s = omega arith in
     let again = ap (λ (x : ℕ). x * s) joined in
-    let far : id - first ≡ (id / s - first / s) * s = omega arith in
     let rows : (id - first) / s ≡ id / s - first / s =
-    ap (λ (x : ℕ). x / s) far ∙ mul-div_cancel (id / s - first / s) some in
-    let back = ap (λ (x : ℕ). x * s) rows in
-    omega arith
+    ap (λ (x : ℕ). x / s) (omega arith) ∙ mul-div_cancel (id / s - first / s) some in
+    omega (arith, quotient first s whole_first, (ap (λ (x : ℕ). x * s) rows))
 
 -- the marks of a layout
 abbrev pub HasMarks : Layout → List ℕ → Type 0
@@ -86,25 +79,22 @@ module _ (l : Layout) (id : ℕ) (is : IsId (ids_of l) id) (sound : IsSoundLayou
       let some : 0 < length (patterns_of (table_of l) row) =
       some_pattern (record { sound = sound; below = row-is_below l id is }) e in
       let same = match_patterns l id is e in
-      let here = pattern_at l lists i (match_place l id is sound e) 0
-      (subst (λ (ks : List ℕ). 0 < length ks) same some)
+      let here = (grind (arith, common_steps))
       ∙ ap (λ (ks : List ℕ). slice_index ks 0) (sym same) in
       let first : first_pattern l.slices l.pattern_ids i ≡ slice_index (patterns_of (table_of l) row) 0 =
       ap (slice_index l.pattern_ids) (let none : slice_index l.slices (2 * i) ≡ slice_index l.slices (2 * i) + 0 =
       omega arith in none) ∙ here in
-      let few = pattern_ids l id is sound lists e 0 some in
-      (are.each i has).first (omega arith) ∙ first
+      (are.each i has).first (omega (arith, pattern_ids l id is sound lists e 0 some)) ∙ first
 
   pub mark_final : AreRows l → 2 ^ 31 ≤ slice_index marks (place_in_range l l.special.min_match id)
       → IsFinal (table_of l) (row_of (ids_of l) id)
   mark_final rows final = record {
     to_dead = λ unit below.
-        let at = column l unit in
         let there : l.special.min_match + i * stride l ≡ id =
         from_first (stride l) l.special.min_match id (pow_pos l.stride2)
         (are.aligned (omega arith)) (IsRowId-id l id is).whole (match_first l id is e) in
-        let zero = (are.each i has).final final at (column_within l rows.classes unit below) in
-        ap (λ (x : ℕ). slice_index l.words (x + at) / stride l) (id-times l id is ∙ sym there)
+        let zero = (are.each i has).final final (column l unit) (column_within l rows.classes unit below) in
+        ap (λ (x : ℕ). slice_index l.words (x + (column l unit)) / stride l) (id-times l id is ∙ sym there)
         ∙ ap (λ (x : ℕ). x / stride l) zero
         ∙ zero-div (stride l);
   }

@@ -46,11 +46,10 @@ slice_is : (front : List ℕ) (lists : List (List ℕ)) (i : ℕ) → i < length
 slice_is front [] i h = absurd (omega arith)
 slice_is front (list ∷ lists) zero h = grind (arith, common_steps, drop_at)
 slice_is front (list ∷ lists) (suc i) h =
-    let start : length (front ++ list) ≡ length front + length list = length-append front list in
     rw (
       behind_first (length front) (length list) (slices_from (length front + length list) lists) i,
       behind_second (length front) (length list) (slices_from (length front + length list) lists) i,
-      ← start,
+      ← (length-append front list),
       ← append_assoc front list (concat lists),
     ) (slice_is (front ++ list) lists i (omega arith))
 
@@ -63,18 +62,16 @@ patterns_are l lists i h = slice_is [] lists i h
 pub shaped_patterns : (l : Layout) (lists : List (List ℕ)) → length (concat lists) ≤ max_id
     → length (slices_from 0 lists) < 2 * 2 ^ 32 → IsShaped l → IsShaped (with_patterns l lists)
 shaped_patterns l lists few few_rows h =
-    let m : Layout = with_patterns l lists in
     record {
-      rows = rows_kept l m refl refl refl h.rows;
-      starts = starts_kept l m refl (omega arith) refl refl refl h.starts;
+      rows = rows_kept l (with_patterns l lists) refl refl refl h.rows;
+      starts = starts_kept l (with_patterns l lists) refl (omega arith) refl refl refl h.starts;
       lists = record {
         few_patterns = h.lists.few_patterns;
         pairs = omega (arith, length-slices_from 0 lists);
         few_rows = few_rows;
         few = omega arith;
         within = λ i b.
-            let there : i < length lists = omega (arith, length-slices_from 0 lists) in
-            omega (arith, slice_within 0 lists i there);
+            omega (arith, slice_within 0 lists i (omega (arith, length-slices_from 0 lists)));
         few_accels = h.lists.few_accels;
       };
     }

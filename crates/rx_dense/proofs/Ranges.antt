@@ -19,11 +19,10 @@ passed_over test end at zero h fails = grind (arith, common_steps)
 passed_over test end at (suc n) h fails =
     let rest : List ℕ = filter test (range_with_len (at + 1) (end - (at + 1))) in
     let more : end - at ≡ suc (end - (at + 1)) = omega arith in
-    let next : at + 1 + n ≡ at + suc n = omega arith in
     ap (λ n. filter test (range_with_len at n)) more
     ∙ ap (λ t. cond t (at ∷ rest) rest) (fails at (omega arith) (omega arith))
     ∙ passed_over test end (at + 1) n (omega arith) (λ c from below. fails c (omega arith) (omega arith))
-    ∙ ap (λ a. filter test (range_with_len a (end - a))) next
+    ∙ ap (λ a. filter test (range_with_len a (end - a))) (omega arith)
 
 module _ (next_ids : List ℕ) where
   abbrev eoi : ℕ

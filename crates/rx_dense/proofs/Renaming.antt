@@ -27,33 +27,29 @@ module _ {words part : List ℕ} {first n : ℕ} (is : IsPart words part first n
   pub part_outside : (k : ℕ) → IsOutside first n k → slice_index (put_mid first n words part) k ≡ slice_index words k
   part_outside k outside = grind (arith, common_steps)
 
-  pub part_inside : (k : ℕ) → first ≤ k → k < first + n
-      → slice_index (put_mid first n words part) k ≡ slice_index part (k - first)
-  part_inside k low high = (let count = is.count in let within = is.within in grind (arith, places))
-
 -- a part of a list, each of whose ids is renamed
 pub record RenamedPart (rename : ℕ → ℕ) (words part : List ℕ) (first n : ℕ) : Type 0 where
   pub within : first + n ≤ length words
   pub ids : part ≡ map rename (take n (drop first words))
 
 module _ {rename : ℕ → ℕ} {words part : List ℕ} {first n : ℕ} (renamed : RenamedPart rename words part first n) where
-  taken : length (take n (drop first words)) ≡ n
-  taken = (let within = renamed.within in length-take-le n (drop first words) (omega (arith, length-drop first words)))
-
   pub renamed_part : IsPart words part first n
   renamed_part = grind (arith, common_steps)
 
   pub renamed_inside : (k : ℕ) → first ≤ k → k < first + n
       → slice_index (put_mid first n words part) k ≡ rename (slice_index words k)
   renamed_inside k low high =
-      let i : k - first < n = omega arith in
-      let place : first + (k - first) ≡ k = omega arith in
-      part_inside renamed_part k low high
+      (let count = renamed_part.count in let within = renamed_part.within in grind (arith, places))
       ∙ ap (λ part. slice_index part (k - first)) renamed.ids
-      ∙ get_or-map rename (take n (drop first words)) (k - first) 0 0 (omega (arith, taken))
+      ∙ get_or-map rename (take n (drop first words)) (k - first) 0 0
+      (omega (
+        arith,
+        (let within = renamed.within in length-take-le n (drop first words)
+            (omega (arith, length-drop first words))),
+      ))
       ∙ ap rename
-      (get_or-take n (drop first words) (k - first) 0 i ∙ get_or-drop first words (k - first) 0
-      ∙ ap (slice_index words) place)
+      (get_or-take n (drop first words) (k - first) 0 (omega arith) ∙ get_or-drop first words (k - first) 0
+      ∙ ap (slice_index words) (omega arith))
 
 -- ---- row by row
 
@@ -76,12 +72,11 @@ module _ {s alphabet : ℕ} {rename : ℕ → ℕ} {old words : List ℕ} (row :
       let rest : alphabet ≤ length (drop (row * 2 ^ s) words) =
       omega (arith, inside, length-drop (row * 2 ^ s) words) in
       omega (arith, length-take-le alphabet (drop (row * 2 ^ s) words) rest) in
-      let there : row * 2 ^ s + i < length old = omega (arith, inside) in
       subst P
       (sym
       (get_or-take alphabet (drop (row * 2 ^ s) words) i 0 low ∙ get_or-drop (row * 2 ^ s) words i 0
       ∙ below.rest (row * 2 ^ s + i) (omega arith)))
-      (All-get_or P old (row * 2 ^ s + i) 0 there old_ids))
+      (All-get_or P old (row * 2 ^ s + i) 0 (omega (arith, inside)) old_ids))
 
   -- the next row, renamed
   pub row_more : (part : List ℕ) → part ≡ map rename (take alphabet (drop (row * 2 ^ s) words))
@@ -243,7 +238,7 @@ module _ (l : Layout) (ids part : List ℕ) (id : ℕ) (is : IsRowId l id) (fits
       (λ k b.
       ⊎_elim
       (λ (own : k / stride l ≡ id / stride l).
-      let at : k ≡ id + k % stride l = in_row k own in
+      let at : k ≡ id + k % stride l = grind (arith, common_steps) in
       rw (eq-eqb _ _ own)
       (⊎_elim
       (λ (entry : k % stride l < alphabet_len l.classes).
@@ -259,9 +254,6 @@ module _ (l : Layout) (ids part : List ℕ) (id : ℕ) (is : IsRowId l id) (fits
       outside : (k : ℕ) → IsOutside id (alphabet_len l.classes) k
           → slice_index (put_mid id (alphabet_len l.classes) l.words part) k ≡ slice_index l.words k
       outside = part_outside (renamed_part renamed)
-
-      in_row : (k : ℕ) → k / stride l ≡ id / stride l → k ≡ id + k % stride l
-      in_row k own = grind (arith, common_steps)
 
       elsewhere : (k : ℕ) → (k / stride l ≡ id / stride l → ⊥) → IsOutside id (alphabet_len l.classes) k
       elsewhere k other =

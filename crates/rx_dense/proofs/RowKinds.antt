@@ -6,7 +6,7 @@ use Rattle.rx_spec.proofs.Prelude.{Contains-get_or, row_of, max_id, Label, is_ma
 use Rattle.rx_search.specs.Starts.{IsId, universal_start}
 use Rattle.rx_search.specs.Labels.{is_quit, is_quit_label, label_patterns, patterns_of}
 use Rattle.rx_search.proofs.Standing.{match_label}
-use Rattle.rx_dense.specs.Specials.{is_in_range, is_match_id, is_quit_id, is_accel_id, is_start_id}
+use Rattle.rx_dense.specs.Specials.{is_match_id, is_quit_id, is_accel_id, is_start_id}
 use Rattle.rx_dense.specs.Layouts.{Layout, AreLists, ids_of, label_of_id, needles_of_id, patterns_at, place_in_range}
 use Rattle.rx_dense.specs.Layouts.{AreRows, is_row_id, stride, table_of, universal_id, universal_row}
 use Rattle.rx_dense.specs.Facts.{IsSoundLayout}
@@ -31,16 +31,13 @@ quit_by false false ks = refl
 matches_by : (m q : Bool) (ks : List ℕ) → m ≡ true → label_by m q ks ≡ Label.Matches ks
 matches_by m q ks e = ap (λ m. label_by m q ks) e
 
-first_below : (first last id : ℕ) → is_in_range first last id ≡ true → first ≤ id
-first_below first last id e = leb-true first id (and_parts _ _ (and_parts _ _ e).0).0
-
 -- ---- rows by their ids
 
 module _ (l : Layout) (id : ℕ) (is : IsId (ids_of l) id) where
   row : ℕ
   row = row_of (ids_of l) id
 
-  at_row : {X : Type 0} (f : ℕ → X) → f id ≡ f (row_of (ids_of l) id * stride l)
+  pub at_row : {X : Type 0} (f : ℕ → X) → f id ≡ f (row_of (ids_of l) id * stride l)
   at_row f = sym (ap f (id-times l id is))
 
   pub special_kind : nat_le id l.special.max ≡ (table_of l).is_special (row_of (ids_of l) id)
@@ -72,7 +69,7 @@ module _ (l : Layout) (id : ℕ) (is : IsId (ids_of l) id) where
   -- ---- match rows
 
   pub match_first : is_match (table_of l) (row_of (ids_of l) id) ≡ true → l.special.min_match ≤ id
-  match_first e = first_below l.special.min_match l.special.max_match id (match_kind ∙ e)
+  match_first e = leb-true l.special.min_match id (and_parts _ _ (and_parts _ _ (match_kind ∙ e)).0).0
 
   match_label_is : is_match (table_of l) (row_of (ids_of l) id) ≡ true
       → (table_of l).machine.label (row_of (ids_of l) id)
@@ -94,10 +91,9 @@ module _ (l : Layout) (id : ℕ) (is : IsId (ids_of l) id) where
       (λ (h : 2 * i + 1 < length l.slices). h)
       (λ (h : length l.slices ≤ 2 * i + 1).
       let none : slice_index l.slices (2 * i + 1) ≡ 0 = get_or_past l.slices (2 * i + 1) 0 h in
-      let empty : patterns_at l i ≡ [] = ap (λ n. take n (drop (slice_index l.slices (2 * i)) l.pattern_ids)) none in
       absurd (
       sound.is_table.lists (row_of (ids_of l) id) (row-is_below l id is)
-      (match_label_is e ∙ ap Label.Matches empty)
+      (match_label_is e ∙ ap Label.Matches (ap (λ n. take n (drop (slice_index l.slices (2 * i)) l.pattern_ids)) none))
       ))
       (cases_lt (2 * i + 1) (length l.slices))
     where
@@ -120,7 +116,7 @@ module _ (l : Layout) (id : ℕ) (is : IsId (ids_of l) id) where
   -- ---- accelerated rows
 
   pub accel_first : is_accel_id l.special id ≡ true → l.special.min_accel ≤ id
-  accel_first e = first_below l.special.min_accel l.special.max_accel id e
+  accel_first e = leb-true l.special.min_accel id (and_parts _ _ (and_parts _ _ e).0).0
 
   pub no_needles : is_accel_id l.special id ≡ false → [] ≡ (table_of l).needles (row_of (ids_of l) id)
   no_needles e =
@@ -140,9 +136,8 @@ module _ (l : Layout) (id : ℕ) (is : IsId (ids_of l) id) where
       (λ (h : i < length l.accels). h)
       (λ (h : length l.accels ≤ i).
       let none : get_or l.accels i [] ≡ [] = get_or_past l.accels i [] h in
-      let some = sound.some_needle (row_of (ids_of l) id) (row-is_below l id is) (sym accel_kind ∙ e) in
       let empty : length ((table_of l).needles (row_of (ids_of l) id)) ≡ 0 = ap length (sym (needles_are e) ∙ none) in
-      absurd (omega arith))
+      absurd (omega (arith, sound.some_needle (row_of (ids_of l) id) (row-is_below l id is) (sym accel_kind ∙ e))))
       (cases_lt i (length l.accels))
     where
       i : ℕ
@@ -154,20 +149,12 @@ module _ (l : Layout) (lists : AreLists l) (i : ℕ) (h : 2 * i + 1 < length l.s
   pub patterns_len : length (patterns_at l i) ≡ slice_index l.slices (2 * i + 1)
   patterns_len = grind (arith, common_steps)
 
-  pub pattern_at : (k : ℕ) → k < length (patterns_at l i)
-      → slice_index l.pattern_ids (slice_index l.slices (2 * i) + k) ≡ slice_index (patterns_at l i) k
-  pattern_at k b = grind (arith, common_steps)
-
 -- ---- universal starts
 
-universal_is : (l : Layout) (mode : Anchored)
+pub universal_is : (l : Layout) (mode : Anchored)
     → universal_start (table_of l) mode ≡ universal_row l (universal_id l mode)
 universal_is l Anchored.No = refl
 universal_is l _ = refl
-
-pub no_universal : (l : Layout) (mode : Anchored) → universal_id l mode ≡ None
-    → None ≡ universal_start (table_of l) mode
-no_universal l mode e = sym (universal_is l mode ∙ ap (universal_row l) e)
 
 pub invalid_universal : (l : Layout) (mode : Anchored) (id : ℕ) → universal_id l mode ≡ Some id → is_row_id l id ≡ false
     → None ≡ universal_start (table_of l) mode

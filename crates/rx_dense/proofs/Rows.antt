@@ -29,13 +29,10 @@ multiple_below row s n some h = grind (arith, common_steps)
 -- a multiple of s below another is below it by s
 pub multiple_within : (x s n : ℕ) → x % s ≡ 0 → n % s ≡ 0 → x < n → x + s ≤ n
 multiple_within x s n h k below =
-    let q = quotient x s h in
-    let r = quotient n s k in
     ⊎_elim
     (λ (less : x / s < n / s). omega (arith, row_fits (x / s) s (n / s) s less (omega arith)))
     (λ (more : n / s ≤ x / s).
-    let same : s ≤ s = omega arith in
-    absurd (omega (arith, q, r, mul-le (n / s) s (x / s) s more same)))
+    absurd (omega (arith, quotient x s h, quotient n s k, mul-le (n / s) s (x / s) s more (omega arith))))
     (cases_lt (x / s) (n / s))
 
 -- a part of a list, from a place up to another
@@ -75,10 +72,9 @@ module _ (l : Layout) where
   pub row_of-id : (id : ℕ) → IsRowId l id → row_of (ids_of l) id ≡ id / stride l
   row_of-id id is =
       let row = id / stride l in
-      let below = row-below id is in
       let there : id_of (ids_of l) row ≡ id =
-      id_of-dense (row_count l) l.stride2 row below ∙ quotient id (stride l) is.whole in
-      ap (row_of (ids_of l)) (sym there) ∙ row_of-id_of (dense_are_ids (row_count l) l.stride2) row below
+      id_of-dense (row_count l) l.stride2 row (row-below id is) ∙ quotient id (stride l) is.whole in
+      ap (row_of (ids_of l)) (sym there) ∙ row_of-id_of (dense_are_ids (row_count l) l.stride2) row (row-below id is)
 
   pub row_of-row : (row : ℕ) → row < row_count l → row_of (ids_of l) (row * stride l) ≡ row
   row_of-row row h = row_of-id (row * stride l) (IsRowId-row row h) ∙ mul-div_cancel row some
@@ -98,9 +94,7 @@ module _ (l : Layout) where
       sym (id_of-dense (row_count l) l.stride2 (row_of (ids_of l) id) below) ∙ id_at_row (ids_of l) id is
 
   pub IsRowId-id : (id : ℕ) → IsId (ids_of l) id → IsRowId l id
-  IsRowId-id id is =
-      let below : row_of (ids_of l) id < row_count l = omega (arith, count) in
-      subst (IsRowId l) (id-times id is) (IsRowId-row (row_of (ids_of l) id) below)
+  IsRowId-id id is = subst (IsRowId l) (id-times id is) (IsRowId-row (row_of (ids_of l) id) (omega (arith, count)))
 
 -- ---- entries
 
@@ -119,10 +113,7 @@ module _ (l : Layout) (rows : AreRows l) where
 
   -- an entry of a row lies in the table, and leads to a row
   pub entry_within : (id at : ℕ) → IsId (ids_of l) id → at < alphabet_len l.classes → id + at < length l.words
-  entry_within id at is h =
-      let fits = rows.fits in
-      let below = (IsRowId-id l id is).below in
-      omega arith
+  entry_within id at is h = omega (arith, rows.fits, (IsRowId-id l id is).below)
 
   pub entry_id : (id at : ℕ) → IsId (ids_of l) id → at < alphabet_len l.classes
       → IsId (ids_of l) (slice_index l.words (id + at))
@@ -159,10 +150,8 @@ module _ (classes : List ℕ) (are : AreClasses classes) where
       ⊎_elim
       (λ (e : b ≡ suc n). subst (λ x. slice_index classes x ≤ slice_index classes (suc n)) (sym e) (omega arith))
       (λ (ne : b ≡ suc n → ⊥).
-      let rises = are.rises n (omega arith) in
-      let next : n + 1 ≡ suc n = omega arith in
       let up : slice_index classes n ≤ slice_index classes (suc n) =
-      subst (λ x. slice_index classes n ≤ slice_index classes x) next rises in
+      subst (λ x. slice_index classes n ≤ slice_index classes x) (omega arith) (are.rises n (omega arith)) in
       omega (arith, class_below n b (omega arith) (omega arith)))
       (cases_eq b (suc n))
 
@@ -173,10 +162,8 @@ module _ (classes : List ℕ) (are : AreClasses classes) where
   class_upto : (b : ℕ) → b < 256 → slice_index classes b ≤ b
   class_upto zero h = omega arith
   class_upto (suc b) h =
-      let by_one = are.by_one b (omega arith) in
-      let next : b + 1 ≡ suc b = omega arith in
       let up : slice_index classes (suc b) ≤ slice_index classes b + 1 =
-      subst (λ x. slice_index classes x ≤ slice_index classes b + 1) next by_one in
+      subst (λ x. slice_index classes x ≤ slice_index classes b + 1) (omega arith) (are.by_one b (omega arith)) in
       omega (arith, class_upto b (omega arith))
 
   pub alphabet_few : alphabet_len classes ≤ 257

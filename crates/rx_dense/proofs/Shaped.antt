@@ -81,9 +81,8 @@ rows_set l m id column next c s w is within next_is h =
           (set_keeps (λ k x. IsRowId l x) l.words (id + column) next place next_is h.next_ids k there));
       past_alphabet = λ k b past.
           let there : k < length l.words = omega arith in
-          let old : alphabet_len l.classes ≤ k % stride l = rw (c, s) at past in
           rw w (set_keeps (λ k x. alphabet_len l.classes ≤ k % stride l → x ≡ 0) l.words (id + column) next place
-          (λ e. absurd (omega arith)) h.past_alphabet k there old);
+          (λ e. absurd (omega arith)) h.past_alphabet k there (rw (c, s) at past));
     }
 
 -- a start entry
@@ -106,7 +105,6 @@ rows_more l m c s w few h =
     let count : length m.words ≡ length l.words + stride l =
     ap length w ∙ length-append l.words (replicate (stride l) 0)
     ∙ ap (λ n. length l.words + n) (length-replicate (stride l) 0) in
-    let same : length l.words ≤ length m.words = omega arith in
     let none : IsRowId m 0 = zero_id m (rw s (omega arith)) in
     let two = h.two in
     record {
@@ -119,20 +117,17 @@ rows_more l m c s w few h =
       next_ids = λ k b.
           ⊎_elim
           (λ (old : k < length l.words).
-          subst (IsRowId m) (sym (old_word k old)) (id_kept l m _ s same (h.next_ids k old)))
+          subst (IsRowId m) (sym (grind (arith, common_steps))) (id_kept l m _ s (omega arith) (h.next_ids k old)))
           (λ (new : length l.words ≤ k). subst (IsRowId m) (sym (new_word k new (omega arith))) none)
           (cases_lt k (length l.words));
       past_alphabet = λ k b past.
           ⊎_elim
           (λ (old : k < length l.words).
-          old_word k old ∙ h.past_alphabet k old (rw (c, s) at past))
+          (grind (arith, common_steps)) ∙ h.past_alphabet k old (rw (c, s) at past))
           (λ (new : length l.words ≤ k). new_word k new (omega arith))
           (cases_lt k (length l.words));
     }
   where
-    old_word : (k : ℕ) → k < length l.words → slice_index m.words k ≡ slice_index l.words k
-    old_word k old = grind (arith, common_steps)
-
     new_word : (k : ℕ) → length l.words ≤ k → k < length l.words + stride l → slice_index m.words k ≡ 0
     new_word k low high = grind (arith, common_steps)
 
@@ -160,10 +155,9 @@ shaped_universal l unanchored anchored h =
 pub shaped_accels : (l : Layout) (accels : List (List ℕ)) → length accels < 2 ^ 32 → IsShaped l
     → IsShaped (record l { accels = accels })
 shaped_accels l accels few h =
-    let m : Layout = record l { accels = accels } in
     record {
-      rows = rows_kept l m refl refl refl h.rows;
-      starts = starts_kept l m refl (omega arith) refl refl refl h.starts;
+      rows = rows_kept l (record l { accels = accels }) refl refl refl h.rows;
+      starts = starts_kept l (record l { accels = accels }) refl (omega arith) refl refl refl h.starts;
       lists = record {
         few_patterns = h.lists.few_patterns;
         pairs = h.lists.pairs;
@@ -272,7 +266,6 @@ pub shaped_words : (l : Layout) (ws : List ℕ) → length ws ≡ length l.words
     → IsShaped l → IsShaped (record l { words = ws })
 shaped_words l ws count ids zeros h =
     let m : Layout = record l { words = ws } in
-    let same : length l.words ≤ length m.words = omega arith in
     record {
       rows = record {
         classes = h.rows.classes;
@@ -281,10 +274,10 @@ shaped_words l ws count ids zeros h =
         whole = rw count h.rows.whole;
         two = rw count h.rows.two;
         few = rw count h.rows.few;
-        next_ids = λ k b. id_kept l m (slice_index ws k) refl same (ids k (omega arith));
+        next_ids = λ k b. id_kept l m (slice_index ws k) refl (omega arith) (ids k (omega arith));
         past_alphabet = λ k b past. zeros k (omega arith) past;
       };
-      starts = starts_kept l m refl same refl refl refl h.starts;
+      starts = starts_kept l m refl (omega arith) refl refl refl h.starts;
       lists = lists_kept l m refl refl refl refl h.lists;
     }
 
@@ -318,13 +311,6 @@ rows_apart l x y x_is y_is ne = grind (arith, common_steps)
 
 -- the places of rows
 module _ (l : Layout) where
-  in_row : (id c : ℕ) → IsRowId l id → c < stride l → id + c < length l.words
-  in_row id c is low = (let below = is.below in omega arith)
-
-  same_column : (id other c : ℕ) → IsRowId l id → IsRowId l other → c < stride l
-      → (id + c) % stride l ≡ (other + c) % stride l
-  same_column id other c is other_is low = grind (arith, common_steps, at_column)
-
   by_row : {X : Type 0} (id k : ℕ) → ((c : ℕ) → c < stride l → k ≡ id + c → X) → (IsOutside id (stride l) k → X) → X
   by_row id k inside outside =
       ⊎_elim
@@ -355,8 +341,8 @@ module _ (l : Layout) where
       → (c : ℕ) → c < stride l → k ≡ id + c → IsOld ws k
   in_other ws id other k is other_is same c low e = (
     other + c,
-    in_row other c other_is low,
-    ap (λ x. x % stride l) e ∙ same_column id other c is other_is low,
+    (let below = other_is.below in omega arith),
+    ap (λ x. x % stride l) e ∙ (grind (arith, common_steps, at_column)),
     ap (slice_index ws) e ∙ same c low,
   )
 

@@ -41,10 +41,10 @@ module _ (l : Layout) (h : IsShaped l) where
       (valid _ (start_id_is mode Start.NonWordByte))
   row_if mode false = refl
 
-  -- the common start as an id is that of the row
-  common_row : (mode : Anchored)
-      → universal_row l (common_start (start_id l mode)) ≡ common_start ((machine_of l).entry mode)
-  common_row mode =
+  kept : (b : Bool) (mode : Anchored)
+      → universal_row l (if b then common_start (start_id l mode) else None)
+      ≡ (if b then common_start ((machine_of l).entry mode) else None)
+  kept true mode =
       let first = start_id l mode Start.NonWordByte in
       let same_ids : Start → Bool = λ start. start_id l mode start == first in
       let same_rows : Start → Bool = λ start. start_id l mode start / stride l == first / stride l in
@@ -52,11 +52,6 @@ module _ (l : Layout) (h : IsShaped l) where
       same_row l (start_id l mode start) first (start_id_is mode start) (start_id_is mode Start.NonWordByte) in
       ap (λ b. universal_row l (if b then Some first else None)) (list_all_same same_ids same_rows agree all_starts)
       ∙ row_if mode (list_all same_rows all_starts)
-
-  kept : (b : Bool) (mode : Anchored)
-      → universal_row l (if b then common_start (start_id l mode) else None)
-      ≡ (if b then common_start ((machine_of l).entry mode) else None)
-  kept true mode = common_row mode
   kept false mode = refl
 
   pub universal_starts : HasUniversalStarts (table_of (with_universal_starts l))

@@ -104,6 +104,24 @@ pub record IsCopied (width : ℕ) (old new : List ℕ) (from to : ℕ) : Type 0 
   pub there : (c : ℕ) → c < width → slice_index new (to + c) ≡ slice_index old (from + c)
   pub others : (k : ℕ) → IsOutside to width k → slice_index new k ≡ slice_index old k
 
+-- a row of so many words has the ids that a list has for the rows to which another one led, and all other words have
+-- stayed
+pub record IsMovedDown (stride2 : ℕ) (ids : List ℕ) (width : ℕ) (old new : List ℕ) (from to : ℕ) : Type 0 where
+  pub count : length new ≡ length old
+  pub there : (c : ℕ) → c < width
+      → slice_index new (to + c) ≡ slice_index ids (slice_index old (from + c) / 2 ^ stride2)
+  pub others : (k : ℕ) → IsOutside to width k → slice_index new k ≡ slice_index old k
+
+-- The first rows of a list lie at their indices among them, with other ids for the rows to which they lead. The words
+-- past the alphabet and those behind these rows have stayed.
+pub record AreMovedDown (stride2 alphabet : ℕ) (ids rows : List ℕ) (count : ℕ) (old new : List ℕ) : Type 0 where
+  pub length_is : length new ≡ length old
+  pub moved : (place c : ℕ) → place < count → c < alphabet
+      → slice_index new (place * 2 ^ stride2 + c)
+      ≡ slice_index ids (slice_index old (slice_index rows place * 2 ^ stride2 + c) / 2 ^ stride2)
+  pub padding : (k : ℕ) → alphabet ≤ k % 2 ^ stride2 → slice_index new k ≡ slice_index old k
+  pub behind : (k : ℕ) → count * 2 ^ stride2 ≤ k → slice_index new k ≡ slice_index old k
+
 -- the id that a list, with one for each row, has for the row of an id
 abbrev pub renamed_id : Layout → List ℕ → ℕ → ℕ
 renamed_id l ids id = slice_index ids (id / stride l)
@@ -140,6 +158,16 @@ with_renamed_row l id ids = record l {
 -- the same table with fewer rows
 abbrev pub with_rows : Layout → ℕ → Layout
 with_rows l rows = record l { words = take (rows * stride l) l.words }
+
+-- the rows of a list, each at its index among them, with other ids for the rows to which they and the start entries
+-- lead
+abbrev pub kept : Layout → (rows ids : List ℕ) → Layout
+kept l rows ids = record l {
+  words = map
+      (λ place. renamed_word l ids (slice_index rows (place / stride l) * stride l + place % stride l))
+      (range_with_len 0 (length rows * stride l));
+  starts = map (renamed_id l ids) l.starts;
+}
 
 -- ---- the patterns of match rows
 

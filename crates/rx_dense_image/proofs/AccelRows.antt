@@ -13,9 +13,7 @@ row_id_of l read id test = grind (arith, common_steps, and_parts, eqb-true, mult
 
 -- a row of a range
 times_whole : (a i s : ℕ) → a % s ≡ 0 → 0 < s → (a + i * s) % s ≡ 0
-times_whole a i s whole some =
-    let e : a + i * s ≡ (a / s + i) * s = omega arith in
-    ap (λ (n : ℕ). n % s) e ∙ mul-mod_left (a / s + i) s
+times_whole a i s whole some = ap (λ (n : ℕ). n % s) (omega arith) ∙ mul-mod_left (a / s + i) s
 
 up_to : (d i s : ℕ) → 0 < s → i < d / s + 1 → i * s ≤ d
 up_to d i s some lt = grind arith
@@ -55,11 +53,3 @@ pub record AreSpecialRows (l : Layout) : Type 0 where
 
 pub special_rows : (l : Layout) → are_special_rows l l.special ≡ true → AreSpecialRows l
 special_rows l test = grind (arith, common_steps, and_parts)
-
-pub first_accel : (l : Layout) → AreReadRows (rows_of l) → are_special_rows l l.special ≡ true
-    → IsRowId l l.special.min_accel
-first_accel l read test = row_id_of l read l.special.min_accel (special_rows l test).min_accel
-
-pub last_accel : (l : Layout) → AreReadRows (rows_of l) → are_special_rows l l.special ≡ true
-    → IsRowId l l.special.max_accel
-last_accel l read test = row_id_of l read l.special.max_accel (special_rows l test).max_accel

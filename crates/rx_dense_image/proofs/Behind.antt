@@ -1,6 +1,5 @@
 -- Parts that stand one behind another.
 use Rattle.rx_spec.proofs.Prelude.{common_steps, ◌≡◌, ℕ, ◌+◌, List, [], ◌++◌, length, drop, refl, ap, subst, arith, w32}
-use Rattle.rx_spec.proofs.Prelude.{w128}
 use Rattle.rx_wire.specs.declared.order.Order.{Order}
 use Rattle.rx_wire.specs.Fields.{Stands, field}
 use Rattle.rx_dense_image.specs.Written.{IsPut}
@@ -26,10 +25,6 @@ pub of_word : (order : Order) {n m : ℕ} {old new : List ℕ} {at end : ℕ} �
 of_word order e h = put_same (ap (field order w32) e) h
 
 -- ---- words
-
-pub of_wide : (order : Order) {n m : ℕ} {old new : List ℕ} {at end : ℕ} → n ≡ m
-    → IsPut (field order w128 n) old new at end → IsPut (field order w128 m) old new at end
-of_wide order e h = put_same (ap (field order w128) e) h
 
 -- at the front of a destination
 pub written : {part old new : List ℕ} {end : ℕ} → IsPut part old new 0 end

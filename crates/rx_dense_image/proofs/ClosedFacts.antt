@@ -28,23 +28,21 @@ each_at p xs k test lt = grind (arith, common_steps)
 
 pub closed : (l : Layout) → is_closed l ≡ true → AreClosed l
 closed l test =
-    let t4 = and_parts _ (accels_stand l) test in
-    let t3 = and_parts _ (lists_stand l) t4.0 in
-    let t2 = and_parts _ (starts_stand l) t3.0 in
-    let t1 = and_parts (rows_stand l) (special_stand l) t2.0 in
+    let t3 = and_parts _ (lists_stand l) (and_parts _ (accels_stand l) test).0 in
+    let t1 = and_parts (rows_stand l) (special_stand l) (and_parts _ (starts_stand l) t3.0).0 in
     let r1 = and_parts _ (lead_to_dead l) t1.0 in
     let r0 = and_parts (leb 2 (row_count l)) (are_entries (rows_of l)) r1.0 in
     let entries = and_parts (have_ids (rows_of l)) (list_all (is_entry (rows_of l)) (range_with_len 0 (length l.words)))
     r0.1 in
     let special = and_parts (are_special_rows l l.special) (are_named l) t1.1 in
-    let s1 = and_parts _ (is_universal l l.universal_anchored) t2.1 in
+    let s1 = and_parts _ (is_universal l l.universal_anchored) (and_parts _ (starts_stand l) t3.0).1 in
     let s0 = and_parts (list_all (is_start_row l) l.starts) (is_universal l l.universal_unanchored) s1.0 in
     let lists =
     and_parts (eqb (length l.slices / 2) (range_len l l.special.min_match l.special.max_match)) (are_lists l)
     t3.1 in
     let accels =
     and_parts (eqb (length l.accels) (range_len l l.special.min_accel l.special.max_accel))
-    (list_all (has_needles l) (range_with_len 0 (length l.accels))) t4.1 in
+    (list_all (has_needles l) (range_with_len 0 (length l.accels))) (and_parts _ (accels_stand l) test).1 in
     record {
       two = leb-true _ _ r0.0;
       ids = leb-true _ _ entries.0;

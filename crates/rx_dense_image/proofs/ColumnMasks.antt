@@ -31,9 +31,6 @@ rounds (suc (suc (suc (suc (suc (suc (suc (suc (suc (suc n)))))))))) k h = absur
 abbrev pub IsBytes : List ℕ → Type 0
 IsBytes bytes = (i : ℕ) → get_or bytes i 0 < 256
 
-IsBytes-drop : (n : ℕ) (bytes : List ℕ) → IsBytes bytes → IsBytes (drop n bytes)
-IsBytes-drop n bytes h i = rw get_or-drop (h (n + i))
-
 IsBytes-take : (n : ℕ) (bytes : List ℕ) → IsBytes bytes → IsBytes (take n bytes)
 IsBytes-take n bytes h i = grind (arith, common_steps)
 
@@ -44,19 +41,13 @@ number_small Order.Big bytes fits = omega arith
 pub word_small : (order : Order) (bytes : List ℕ) (k : ℕ) → IsBytes bytes → word_at order bytes k < 2 ^ 32
 word_small order bytes k fits =
     number_small order (take 4 (drop (4 * k) bytes))
-    (IsBytes-take 4 (drop (4 * k) bytes) (IsBytes-drop (4 * k) bytes fits))
+    (IsBytes-take 4 (drop (4 * k) bytes) (λ i. rw get_or-drop (fits ((4 * k) + i))))
 
 -- ---- what a mask keeps
 
-and_all : (w : ℕ) → w < 2 ^ 32 → bit_and w 4294967295 ≡ w
-and_all w lt = let h : bit_and w 4294967295 ≡ w % 2 ^ 32 = and_mask w 32 in h ∙ omega arith
-
-and_none : (w : ℕ) → bit_and w 0 ≡ 0
-and_none w = omega (arith, and_le_r w 0)
-
 kept_or_none : (b : Bool) (w : ℕ) → w < 2 ^ 32 → bit_and w (cond b 4294967295 0) ≡ cond b w 0
-kept_or_none true w lt = and_all w lt
-kept_or_none false w lt = and_none w
+kept_or_none true w lt = (let h : bit_and w 4294967295 ≡ w % 2 ^ 32 = and_mask w 32 in h ∙ omega arith)
+kept_or_none false w lt = omega (arith, and_le_r w 0)
 
 module _ {c : Columns} {s alphabet : ℕ} (of : AreOf c s alphabet) where
   -- what is kept of a word is the cleared word

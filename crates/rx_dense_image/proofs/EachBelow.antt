@@ -26,8 +26,7 @@ below_not (suc n) p k lt h =
     elim (cases_lt k n) [
       | inl early ↦ ap (λ (b : Bool). b && p n) (below_not n p k early h)
       | inr late ↦ (
-          let e : k ≡ n = omega arith in
-          and_right (each_below n p) (p n) (subst (λ (i : ℕ). p i ≡ false) e h))
+          and_right (each_below n p) (p n) (subst (λ (i : ℕ). p i ≡ false) (omega arith) h))
     ]
 
 -- ---- of a range
@@ -35,18 +34,16 @@ below_not (suc n) p k lt h =
 pub range_more : (n a : ℕ) → range_with_len a (suc n) ≡ range_with_len a n ++ ((a + n) ∷ [])
 range_more zero a = let e : a ≡ a + 0 = omega arith in ap (λ (x : ℕ). x ∷ []) e
 range_more (suc n) a =
-    let e : a + 1 + n ≡ a + suc n = omega arith in
     ap (λ (t : List ℕ). a ∷ t) (range_more n (a + 1))
-    ∙ ap (λ (x : ℕ). a ∷ (range_with_len (a + 1) n ++ (x ∷ []))) e
+    ∙ ap (λ (x : ℕ). a ∷ (range_with_len (a + 1) n ++ (x ∷ []))) (omega arith)
 
 pub all_below : (n : ℕ) (p : ℕ → Bool) → each_below n p ≡ list_all p (range_with_len 0 n)
 all_below zero p = refl
 all_below (suc n) p =
     let first : List ℕ = range_with_len 0 n in
-    let e : 0 + n ≡ n = omega arith in
     let last : list_all p (first ++ ((0 + n) ∷ [])) ≡ (list_all p first && p n) =
     list_all-append p first ((0 + n) ∷ [])
-    ∙ ap (λ (b : Bool). list_all p first && b) (and-true (p (0 + n)) ∙ ap p e) in
+    ∙ ap (λ (b : Bool). list_all p first && b) (and-true (p (0 + n)) ∙ ap p (omega arith)) in
     ap (λ (b : Bool). b && p n) (all_below n p) ∙ sym (ap (list_all p) (range_more n 0) ∙ last)
 
 pub all_of : (n : ℕ) (p : ℕ → Bool) → ((k : ℕ) → k < n → p k ≡ true) → list_all p (range_with_len 0 n) ≡ true

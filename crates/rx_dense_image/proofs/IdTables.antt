@@ -66,10 +66,6 @@ module _ (t : IdTable) where
 
   -- ---- labels
 
-  -- a row matches where its id is in the range of match rows
-  pub match_is : (row : ℕ) → is_match t.table row ≡ is_match_id t.special (t.id row)
-  match_is row = grind (arith, common_steps, matches_by)
-
   -- the patterns of a match row are those of the row
   pub patterns_of : (row : ℕ) (ks : List ℕ) → t.table.machine.label row ≡ Label.Matches ks
       → (is_match_id t.special (t.id row) ≡ true) × (t.patterns row ≡ ks)
@@ -84,7 +80,7 @@ module _ (t : IdTable) where
   pub named_is : (row : ℕ) → row < t.table.size → is_named t.special (t.id row)
       ≡ (eqb row 0 || eqb row 1 || is_match t.table row || is_accel_id t.special (t.id row)
       || is_start_id t.special (t.id row))
-  named_is row h = grind (arith, common_steps, match_is)
+  named_is row h = grind (arith, common_steps, matches_by)
 
   module _ (test : are_special t.special ≡ true) where
     pub dead_label : t.table.machine.label 0 ≡ Label.Plain
@@ -121,19 +117,14 @@ module _ (t : IdTable) where
       (λ byte. not (eqb (t.table.machine.next row byte) row)) (range_with_len 0 256)
       (every_in_range
       (λ byte. not (eqb (t.next row byte) (t.id row)) ≡ not (eqb (t.table.machine.next row byte) row)) 0 256
-      (λ byte low high. ap not (same byte (omega arith))))
-    where
-      same : (byte : ℕ) → byte < 257 → eqb (t.next row byte) (t.id row) ≡ eqb (t.table.machine.next row byte) row
-      same byte u = grind (arith, common_steps)
+      (λ byte low high. ap not (grind (arith, common_steps))))
 
 -- ---- dense tables
 
 module _ (l : Layout) (rows : AreRows l) where
   pub place_below : (row unit : ℕ) → row < row_count l → unit < 257 → row * stride l + column l unit < length l.words
   place_below row unit lt u =
-      let fits = rows.fits in
-      let below = (IsRowId-row l row lt).below in
-      omega (arith, column_within l rows.classes unit u)
+      omega (arith, column_within l rows.classes unit u, rows.fits, (IsRowId-row l row lt).below)
 
   pub next_row : (row unit : ℕ) → row < row_count l → unit < 257 → IsRowId l (next_id l (row * stride l) unit)
   next_row row unit lt u = rows.next_ids _ (place_below row unit lt u)

@@ -1,10 +1,9 @@
 -- Needles that are compared byte by byte with the bytes that leave a row.
-use Rattle.rx_spec.proofs.Prelude.{common_steps, ◌≡◌, ◌≢◌, ℕ, zero, suc, ◌+◌, ◌-◌, ◌<◌, ◌≤◌, Bool, true, false, not}
-use Rattle.rx_spec.proofs.Prelude.{eqb, List, [], ◌∷◌, ◌++◌, length, get_or, take, filter, refl, sym, ap, ◌∙◌, arith}
-use Rattle.rx_spec.proofs.Prelude.{inl, inr, add-one, if◌then◌else◌, range_with_len, bytes_eq, take-length, cases_lt}
-use Rattle.rx_spec.proofs.Prelude.{eq-eqb, ne_eqb, length-take-le, take_more, append-nil, filter-append}
-use Rattle.rx_spec.proofs.Prelude.{bytes_eq-Decides}
-use Rattle.rx_dense.specs.Layouts.{Layout, next_id}
+use Rattle.rx_spec.proofs.Prelude.{common_steps, ◌≡◌, ◌≢◌, ℕ, zero, suc, ◌+◌, ◌-◌, ◌<◌, ◌≤◌, Bool, true, false, eqb}
+use Rattle.rx_spec.proofs.Prelude.{List, [], ◌∷◌, ◌++◌, length, get_or, take, filter, refl, sym, ap, ◌∙◌, arith, inl}
+use Rattle.rx_spec.proofs.Prelude.{inr, add-one, if◌then◌else◌, range_with_len, bytes_eq, take-length, cases_lt, eq-eqb}
+use Rattle.rx_spec.proofs.Prelude.{ne_eqb, length-take-le, take_more, append-nil, filter-append, bytes_eq-Decides}
+use Rattle.rx_dense.specs.Layouts.{Layout}
 use Rattle.rx_dense_image.specs.Closing.{leaves, leaving_id}
 use Rattle.rx_dense_image.proofs.EachBelow.{range_more}
 
@@ -16,9 +15,8 @@ pub record AreMet (needles : List ℕ) (p : ℕ → Bool) (met byte : ℕ) : Typ
 passing : (p : ℕ → Bool) (n : ℕ) → filter p (range_with_len 0 (n + 1))
     ≡ filter p (range_with_len 0 n) ++ (if p n then n ∷ [] else [])
 passing p n =
-    let e : 0 + n ≡ n = omega arith in
     ap (λ (m : ℕ). filter p (range_with_len 0 m)) (add-one n)
-    ∙ ap (filter p) (range_more n 0 ∙ ap (λ (m : ℕ). range_with_len 0 n ++ (m ∷ [])) e)
+    ∙ ap (filter p) (range_more n 0 ∙ ap (λ (m : ℕ). range_with_len 0 n ++ (m ∷ [])) (omega arith))
     ∙ filter-append p (range_with_len 0 n) (n ∷ [])
 
 pub none_met : (needles : List ℕ) (p : ℕ → Bool) → AreMet needles p 0 0
@@ -73,11 +71,10 @@ module _ {needles : List ℕ} {p : ℕ → Bool} {met byte : ℕ} (h : AreMet ne
       ≡ filter p (range_with_len 0 byte) ++ (byte ∷ filter p (range_with_len (byte + 1) (255 - byte)))
   whole =
       let e : 256 ≡ byte + suc (255 - byte) = omega arith in
-      let f : 0 + byte ≡ byte = omega arith in
       ap (λ (n : ℕ). filter p (range_with_len 0 n)) e
       ∙ ap (filter p)
       (range_split byte (suc (255 - byte)) 0
-      ∙ ap (λ (a : ℕ). range_with_len 0 byte ++ range_with_len a (suc (255 - byte))) f)
+      ∙ ap (λ (a : ℕ). range_with_len 0 byte ++ range_with_len a (suc (255 - byte))) (omega arith))
       ∙ filter-append p (range_with_len 0 byte) (range_with_len byte (suc (255 - byte)))
       ∙ ap
       (λ (b : Bool).
@@ -122,13 +119,6 @@ all_met {needles} {p} {met} {byte} h last =
 pub leaving_is : (l : Layout) (id : ℕ) → leaving_id l id ≡ filter (leaves l id) (range_with_len 0 256)
 unfolding leaving_id
 leaving_is l id = refl
-
-pub leaves_where : (l : Layout) (id byte next : ℕ) → next ≡ next_id l id byte → (next ≡ id → ⊥)
-    → leaves l id byte ≡ true
-leaves_where l id byte next is ne = ap not (ne_eqb (next_id l id byte) id (λ e. ne (is ∙ e)))
-
-pub stays_where : (l : Layout) (id byte next : ℕ) → next ≡ next_id l id byte → next ≡ id → leaves l id byte ≡ false
-stays_where l id byte next is e = ap not (eq-eqb (next_id l id byte) id (sym is ∙ e))
 
 module _ (l : Layout) (id : ℕ) {needles : List ℕ} {met byte : ℕ} (h : AreMet needles (leaves l id) met byte) where
   pub few_leave : byte < 256 → leaves l id byte ≡ true → length needles ≤ met

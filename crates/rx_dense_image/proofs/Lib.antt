@@ -19,9 +19,8 @@ pub mod ShapedImages
 pub mod SpecialTests
 pub mod IdTables
 pub mod SoundImages
--- writing: parts that stand one behind another, quit bytes in two halves, how many bytes parts have
+-- writing: parts that stand one behind another, how many bytes parts have
 pub mod Behind
-pub mod Halves
 pub mod ImageLengths
 -- what was written is read again: heads, words and rows; start tables and lists; marks; the whole
 pub mod ReadAgain

@@ -93,8 +93,7 @@ pub marks_again : (order : Order) (word_len : ℕ) (marks : Marks) → AreReadMa
     → AreSpecialIds marks.special → Reads (marks_at order word_len) (marks_text order marks) marks
 unfolding marks_at
 marks_again order word_len marks h ids rest =
-    let t2 : List ℕ = quit_text order marks.quit ++ rest in
-    let t1 : List ℕ = accels_text order marks.accels ++ t2 in
+    let t1 : List ℕ = accels_text order marks.accels ++ (quit_text order marks.quit ++ rest) in
     let regrouped : marks_text order marks ++ rest ≡ special_text order marks.special ++ t1 =
     append_assoc (special_text order marks.special) (accels_text order marks.accels ++ quit_text order marks.quit) rest
     ∙ ap (λ (t : List ℕ). special_text order marks.special ++ t)
@@ -102,7 +101,7 @@ marks_again order word_len marks h ids rest =
     ap (marks_at order word_len) regrouped
     ∙ rw (
       special_again order word_len marks.special h.special h.within ids t1,
-      accels_again order word_len marks h t2,
+      accels_again order word_len marks h (quit_text order marks.quit ++ rest),
       quit_again order marks.quit h.quit rest,
     )
     refl

@@ -25,8 +25,7 @@ pub read_rows : {rows : Rows} {bytes : List ℕ} {count stride : ℕ} → AreCou
     → AreReadRows rows
 read_rows {rows} {bytes} {count} {stride} h =
     let s : ℕ = 2 ^ rows.stride2 in
-    let is : stride ≡ s = h.of_stride.value in
-    let len : length rows.words ≡ count * s = h.len ∙ ap (λ (n : ℕ). count * n) is in
+    let len : length rows.words ≡ count * s = h.len ∙ ap (λ (n : ℕ). count * n) h.of_stride.value in
     let rows_len : length rows.words / s ≡ count =
     ap (λ (n : ℕ). n / s) len ∙ mul-div_cancel count (pow_pos rows.stride2) in
     record {
@@ -34,7 +33,7 @@ read_rows {rows} {bytes} {count} {stride} h =
       some = h.of_stride.some;
       exponent = h.of_stride.exponent;
       fits =
-          subst (λ (n : ℕ). alphabet_len rows.classes ≤ n) is
+          subst (λ (n : ℕ). alphabet_len rows.classes ≤ n) h.of_stride.value
           (subst (λ (t : List ℕ). alphabet_len t ≤ stride) (sym h.classes) h.of_stride.fits);
       whole = ap (λ (n : ℕ). n % s) len ∙ mul-mod_left count s;
       few = subst (λ (n : ℕ). n < 2 ^ 32) (sym rows_len) h.few;

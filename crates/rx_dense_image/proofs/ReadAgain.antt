@@ -1,7 +1,7 @@
 -- What was written is read again, whatever follows: heads, words and rows.
 use Rattle.rx_spec.proofs.Prelude.{common_steps, ◌≡◌, ℕ, ◌+◌, ◌*◌, ◌%◌, ◌^◌, ◌<◌, ◌≤◌, Bool, true, false, List, []}
-use Rattle.rx_spec.proofs.Prelude.{◌++◌, length, get_or, drop, map, slice_index, Ok, refl, sym, ap, subst, ◌∙◌}
-use Rattle.rx_spec.proofs.Prelude.{append_assoc, arith, rules, range_with_len, le-leb, and_from, fill_by_all}
+use Rattle.rx_spec.proofs.Prelude.{◌++◌, length, get_or, drop, slice_index, Ok, refl, sym, ap, subst, ◌∙◌, append_assoc}
+use Rattle.rx_spec.proofs.Prelude.{arith, rules, le-leb, and_from, fill_by_all}
 use Rattle.rx_wire.specs.declared.order.Order.{Order}
 use Rattle.rx_wire.specs.Kinds.{Reads}
 use Rattle.rx_wire.specs.Fields.{bytes_at}
@@ -51,10 +51,6 @@ dense_head_again order flags rest =
 pub words_below : (xs : List ℕ) → ((i : ℕ) → i < length xs → slice_index xs i < 2 ^ 32) → AreWords xs
 words_below xs below i = grind (arith, common_steps)
 
-word_in : (order : Order) (words : List ℕ) → AreWords words → (k : ℕ) → k < length words
-    → slice_index words k ≡ word_at order (words_text order words) k
-word_in order words small k lt = sym (word_alone order words k lt (small k))
-
 front_again : (order : Order) (words rest : List ℕ)
     → bytes_at (4 * length words) (words_text order words ++ rest) ≡ Ok (words_text order words, rest)
 front_again order words rest =
@@ -66,25 +62,21 @@ pub words_again : (order : Order) (words : List ℕ) → AreWords words
 unfolding words_at
 words_again order words small rest =
     let same : words ≡ words_of order (words_text order words) (length words) =
-    fill_by_all (word_at order (words_text order words)) words (length words) 0 refl (word_in order words small) in
+    fill_by_all (word_at order (words_text order words)) words (length words) 0 refl
+    (λ k lt. sym (word_alone order words k lt (small k))) in
     rw (front_again order words rest, ← same) refl
-
-cleared_word : (stride alphabet k word : ℕ) → (alphabet ≤ k % stride → word ≡ 0) → word ≡ cleared stride alphabet k word
-cleared_word stride alphabet k word padded = grind (arith, common_steps)
 
 cleared_words_again : (order : Order) (stride alphabet : ℕ) (words : List ℕ) → AreWords words
     → ((k : ℕ) → k < length words → alphabet ≤ k % stride → slice_index words k ≡ 0)
     → Reads (cleared_words_at order stride alphabet (length words)) (words_text order words) words
 unfolding cleared_words_at
 cleared_words_again order stride alphabet words small padded rest =
-    let text : List ℕ = words_text order words in
-    let f : ℕ → ℕ = λ k. cleared stride alphabet k (word_at order text k) in
+    let f : ℕ → ℕ = λ k. cleared stride alphabet k (word_at order (words_text order words) k) in
     let each : (k : ℕ) → k < length words → get_or words k 0 ≡ f k =
     λ k lt.
-    cleared_word stride alphabet k (slice_index words k) (padded k lt)
-    ∙ ap (cleared stride alphabet k) (word_in order words small k lt) in
-    let same : words ≡ map f (range_with_len 0 (length words)) = fill_by_all f words (length words) 0 refl each in
-    rw (front_again order words rest, ← same) refl
+    (grind (arith, common_steps))
+    ∙ ap (cleared stride alphabet k) (sym (word_alone order words k lt (small k))) in
+    rw (front_again order words rest, ← (fill_by_all f words (length words) 0 refl each)) refl
 
 -- ---- rows
 

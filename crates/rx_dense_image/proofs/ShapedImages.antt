@@ -21,11 +21,6 @@ module _ (l : Layout) (read : IsRead l) (facts : AreClosed l) where
       row_id_of l read.rows (slice_index l.words k)
       (and_parts (is_row_id l (slice_index l.words k)) _ (facts.entries k lt)).0
 
-  pub start_row : (k : ℕ) → k < length l.starts → IsRowId l (slice_index l.starts k)
-  start_row k lt =
-      let outer = and_parts _ (not (eqb (slice_index l.starts k) (stride l))) (facts.starts k lt) in
-      row_id_of l read.rows (slice_index l.starts k) (and_parts (is_row_id l (slice_index l.starts k)) _ outer.0).0
-
   rows_shaped : AreRows l
   rows_shaped = record {
     classes = read.rows.classes;
@@ -45,17 +40,10 @@ module _ (l : Layout) (read : IsRead l) (facts : AreClosed l) where
     small =
         subst (λ (n : ℕ). n ≤ 12 + 6 * (max_id + 1)) (sym read.table.count)
         (few_starts l.pattern_starts read.table.patterns);
-    start_ids = start_row;
+    start_ids = λ k lt.
+        let outer = and_parts _ (not (eqb (slice_index l.starts k) (stride l))) (facts.starts k lt) in
+        row_id_of l read.rows (slice_index l.starts k) (and_parts (is_row_id l (slice_index l.starts k)) _ outer.0).0;
   }
-
-  pub list_within : (i : ℕ) → 2 * i + 1 < length l.slices
-      → slice_index l.slices (2 * i) + slice_index l.slices (2 * i + 1) ≤ length l.pattern_ids
-  list_within i lt =
-      let half : i < length l.slices / 2 = omega arith in
-      let outer = and_parts _ _ (facts.lists i half) in
-      let inner = and_parts _ (not (eqb (slice_index l.slices (2 * i + 1)) 0)) outer.0 in
-      let both = and_parts (ltb (slice_index l.slices (2 * i)) (length l.pattern_ids)) _ inner.0 in
-      leb-true _ _ both.1
 
   lists_shaped : AreLists l
   lists_shaped = record {
@@ -63,7 +51,10 @@ module _ (l : Layout) (read : IsRead l) (facts : AreClosed l) where
     pairs = read.lists.pairs;
     few_rows = read.lists.few_rows;
     few = read.lists.few;
-    within = list_within;
+    within = λ i lt.
+        let outer = and_parts _ _ (facts.lists i (omega arith)) in
+        let inner = and_parts _ (not (eqb (slice_index l.slices (2 * i + 1)) 0)) outer.0 in
+        leb-true _ _ (and_parts (ltb (slice_index l.slices (2 * i)) (length l.pattern_ids)) _ inner.0).1;
     few_accels = read.marks.accels.few;
   }
 

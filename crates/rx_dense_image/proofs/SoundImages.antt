@@ -10,7 +10,7 @@ use Rattle.std.proofs.lemmas.List.Sums.{AllPass-from_list_all}
 use Rattle.rx_spec.specs.declared.Start.{Start}
 use Rattle.rx_base.specs.ByteClasses.{alphabet_len}
 use Rattle.rx_dense.specs.Specials.{is_accel_id, is_in_range, is_match_id}
-use Rattle.rx_dense.specs.Layouts.{IsRowId, IsShaped, Layout, column, is_row_id, label_of_id, needles_of_id, next_id}
+use Rattle.rx_dense.specs.Layouts.{IsRowId, IsShaped, Layout, is_row_id, label_of_id, needles_of_id, next_id}
 use Rattle.rx_dense.specs.Layouts.{patterns_at, place_in_range, row_count, start_id, stride, table_of, universal_row}
 use Rattle.rx_dense.proofs.Rows.{column_within, quotient, row-below, valid_id}
 use Rattle.rx_dense_image.specs.Marks.{is_range}
@@ -53,16 +53,13 @@ module _ (l : Layout) (read : IsRead l) (facts : AreClosed l) where
   -- a word of the first two rows
   dead_word : (k : ℕ) → k < 2 * stride l → slice_index l.words k ≡ 0
   dead_word k lt =
-      let two : 2 * stride l ≤ length l.words = shape.rows.two in
       sym (get_or-take (2 * stride l) l.words k 0 lt)
-      ∙ facts.dead k (omega (arith, length-take (2 * stride l) l.words))
+      ∙ facts.dead k (omega (arith, length-take (2 * stride l) l.words, shape.rows.two))
 
   leads_to_dead : (row unit : ℕ) → row < 2 → unit < 257 → next_id l (row * stride l) unit / stride l ≡ 0
   leads_to_dead row unit lt u =
-      let col : column l unit < alphabet_len l.classes = column_within l read.rows.classes unit u in
-      let fits = read.rows.fits in
       let times = row_fits row (stride l) 2 (stride l) lt (omega arith) in
-      grind (arith, common_steps, dead_word)
+      grind (arith, common_steps, dead_word, column_within l read.rows.classes unit u, read.rows.fits)
 
   -- ---- start entries
 
@@ -73,10 +70,9 @@ module _ (l : Layout) (read : IsRead l) (facts : AreClosed l) where
   start_plain_at k lt =
       let id : ℕ = slice_index l.starts k in
       let outer = and_parts _ (not (eqb id (stride l))) (facts.starts k lt) in
-      let inner = and_parts (is_row_id l id) (not (is_match_id l.special id)) outer.0 in
       let quit : eqb id l.special.quit ≡ false =
       ap (eqb id) facts.special.quit ∙ not-true (eqb id (stride l)) outer.1 in
-      grind (arith, common_steps, not-true)
+      grind (arith, common_steps, not-true, and_parts (is_row_id l id) (not (is_match_id l.special id)) outer.0)
 
   -- ---- universal starts
 
@@ -95,20 +91,16 @@ module _ (l : Layout) (read : IsRead l) (facts : AreClosed l) where
 
   eoi_apart : (row : ℕ) → row < row_count l → next_id l (row * stride l) 256 / stride l ≢ 1
   eoi_apart row lt e =
-      let col : ℕ = slice_index l.classes 255 + 1 in
-      let k : ℕ = row * stride l + col in
-      let u : 256 < 257 = omega arith in
+      let k : ℕ = row * stride l + (slice_index l.classes 255 + 1) in
       let word : ℕ = slice_index l.words k in
-      let fits = read.rows.fits in
-      let within : k < length l.words = place_below l shape.rows row 256 lt u in
+      let within : k < length l.words = place_below l shape.rows row 256 lt (omega arith) in
       let at : k % stride l ≡ alphabet_len l.classes - 1 =
-      mod-mul-add row (stride l) col (omega arith) ∙ omega arith in
+      mod-mul-add row (stride l) (slice_index l.classes 255 + 1) (omega arith) ∙ omega arith in
       let quits : word ≡ stride l =
-      sym (quotient word (stride l) (next_row l shape.rows row 256 lt u).whole)
+      sym (quotient word (stride l) (next_row l shape.rows row 256 lt (omega arith)).whole)
       ∙ ap (λ (n : ℕ). n * stride l) e
-      ∙ omega arith in
-      let test = (and_parts (is_row_id l word) _ (facts.entries k within)).1 in
-      let other = rw (eq-eqb _ _ at, eq-eqb _ _ quits) at test in
+      ∙ omega (arith, read.rows.fits) in
+      let other = rw (eq-eqb _ _ at, eq-eqb _ _ quits) at (and_parts (is_row_id l word) _ (facts.entries k within)).1 in
       absurd cc
 
   -- ---- labels
@@ -139,8 +131,7 @@ module _ (l : Layout) (read : IsRead l) (facts : AreClosed l) where
       let outer = and_parts _ _ test in
       let inner = and_parts _ (not (eqb (slice_index l.slices (2 * i + 1)) 0)) outer.0 in
       let both = and_parts (ltb (slice_index l.slices (2 * i)) (length l.pattern_ids)) _ inner.0 in
-      let len : 0 < slice_index l.slices (2 * i + 1) = above (slice_index l.slices (2 * i + 1)) inner.1 in
-      grind (arith, common_steps, leb-true)
+      grind (arith, common_steps, leb-true, above (slice_index l.slices (2 * i + 1)) inner.1)
     where
       above : (n : ℕ) → not (eqb n 0) ≡ true → 0 < n
       above n h = grind arith
@@ -150,11 +141,6 @@ module _ (l : Layout) (read : IsRead l) (facts : AreClosed l) where
       × (patterns_at l (place_in_range l l.special.min_match (row * stride l)) ≡ ks)
   list_of row ks e =
       let h = patterns_of table row ks e in (match_list (row * stride l) h.0, h.1)
-
-  not_empty : (row : ℕ) → label_of_id l (row * stride l) ≢ Label.Matches []
-  not_empty row e =
-      let h = list_of row [] e in
-      absurd (omega (arith, list_some _ h.0, ap length h.1))
 
   known_patterns : (row : ℕ) (ks : List ℕ) (k : ℕ) → label_of_id l (row * stride l) ≡ Label.Matches ks
       → Contains ks k → k < l.pattern_len
@@ -189,10 +175,9 @@ module _ (l : Layout) (read : IsRead l) (facts : AreClosed l) where
       let m : ℕ = l.special.min_accel in
       let d : ℕ = row * stride l - m in
       let h = within_of m l.special.max_accel (row * stride l) test in
-      let first : m % stride l ≡ 0 = eqb-true _ _ (and_parts (eqb (m % stride l) 0) _ facts.special.min_accel).0 in
       let less : d % stride l < stride l = omega arith in
       let same : (m / stride l + d / stride l) * stride l + d % stride l ≡ row * stride l =
-      omega arith in
+      omega (arith, eqb-true _ _ (and_parts (eqb (m % stride l) 0) _ facts.special.min_accel).0) in
       let whole : d % stride l ≡ 0 =
       sym (mod-mul-add (m / stride l + d / stride l) (stride l) (d % stride l) less)
       ∙ ap (λ (n : ℕ). n % stride l) same
@@ -203,11 +188,10 @@ module _ (l : Layout) (read : IsRead l) (facts : AreClosed l) where
       → needles_of_id l (row * stride l) ≡ leaving (table_of l) row
   needles_are row lt test =
       let i : ℕ = place_in_range l l.special.min_accel (row * stride l) in
-      let needles : List ℕ = get_or l.accels i [] in
-      let equal = (and_parts _ (bytes_eq needles (leaving_id l (l.special.min_accel + i * stride l)))
+      let equal = (and_parts _ (bytes_eq (get_or l.accels i []) (leaving_id l (l.special.min_accel + i * stride l)))
       (accel_needles (row * stride l) test)).1 in
       kept_needles row test
-      ∙ (bytes_eq-Decides needles (leaving_id l (l.special.min_accel + i * stride l))).0 equal
+      ∙ (bytes_eq-Decides (get_or l.accels i []) (leaving_id l (l.special.min_accel + i * stride l))).0 equal
       ∙ ap (leaving_id l) (accel_id_is row test)
       ∙ leaving_is l (row * stride l)
       ∙ leaving_same table row lt
@@ -236,10 +220,6 @@ module _ (l : Layout) (read : IsRead l) (facts : AreClosed l) where
 
   -- ---- all together
 
-  past_last_of : (n k : ℕ) (start : Start) → l.pattern_starts ≡ Some n → n ≤ k
-      → start_id l (Anchored.Pattern k) start / stride l ≡ 0
-  past_last_of n k start e le = grind (arith, common_steps, le-ltb)
-
   is_table_of : IsTable (table_of l)
   is_table_of = record {
     two = facts.two;
@@ -247,14 +227,14 @@ module _ (l : Layout) (read : IsRead l) (facts : AreClosed l) where
     universal_unanchored = λ row e. universal_below l.universal_unanchored row e;
     universal_anchored = λ row e. universal_below l.universal_anchored row e;
     nexts = λ row unit lt u. row-below l (next_id l (row * stride l) unit) (next_row l shape.rows row unit lt u);
-    past_last = past_last_of;
+    past_last = λ n k start e le. grind (arith, common_steps, le-ltb);
     dead_only = λ row lt. refl;
     dead_label = dead_label table read.marks.special;
     dead_stays = λ unit u. leads_to_dead 0 unit (omega arith) u;
     quit_label = quit_label table read.marks.special;
     quit_ends = λ unit u. leads_to_dead 1 unit (omega arith) u;
     quit_only = quit_only table;
-    lists = λ row lt. not_empty row;
+    lists = λ row lt. (λ e. let h = list_of row [] e in absurd (omega (arith, list_some _ h.0, ap length h.1)));
   }
 
   pub sound_of : IsSound (table_of l)

@@ -55,17 +55,11 @@ range_begins first last test some = grind (arith, common_steps)
 -- ---- special ids that pass the test
 
 module _ (s : Special) (test : are_special s ≡ true) where
-  ordered : ((are_ranges s && are_past_quit s) && begin_in_order s) ≡ true
-  ordered = (and_parts _ (leb (greatest s) s.max) test).0
-
-  ranges : are_ranges s ≡ true
-  ranges = (and_parts (are_ranges s) (are_past_quit s) (and_parts _ (begin_in_order s) ordered).0).0
-
-  most : greatest s ≤ s.max
-  most = leb-true _ _ (and_parts _ (leb (greatest s) s.max) test).1
-
   first_ranges : (is_range s.min_match s.max_match && is_range s.min_accel s.max_accel) ≡ true
-  first_ranges = (and_parts _ (is_range s.min_start s.max_start) ranges).0
+  first_ranges =
+      (and_parts _ (is_range s.min_start s.max_start)
+      (and_parts (are_ranges s) (are_past_quit s)
+      (and_parts _ (begin_in_order s) (and_parts _ (leb (greatest s) s.max) test).0).0).0).0
 
   pub match_range : is_range s.min_match s.max_match ≡ true
   match_range = (and_parts (is_range s.min_match s.max_match) (is_range s.min_accel s.max_accel) first_ranges).0
@@ -79,7 +73,7 @@ module _ (s : Special) (test : are_special s ≡ true) where
 
   -- a named id is at most the greatest
   pub named_few : (id : ℕ) → is_named s id ≡ true → id ≤ s.max
-  named_few id e = grind (arith, common_steps, most)
+  named_few id e = grind (arith, common_steps, leb-true _ _ (and_parts _ (leb (greatest s) s.max) test).1)
 
 -- tests of equal parts
 pub alike : {a b c d e f : Bool} → a ≡ b → c ≡ d → e ≡ f → (g h : Bool)

@@ -42,8 +42,7 @@ list_test {l} {i} {first} {len} pair counts are =
     λ first len.
     ((ltb first (length ids) && leb (first + len) (length ids)) && not (eqb len 0))
     && list_all (λ id. ltb id n) (take len (drop first ids)) in
-    let begins : first ≤ length ids = omega arith in
-    ap₂ (λ (a b : ℕ). eqb a b) (are first begins) (are (first + len) pair.ends)
+    ap₂ (λ (a b : ℕ). eqb a b) (are first (omega arith)) (are (first + len) pair.ends)
     ∙ counts_same n first len ids
     ∙ last_test (ltb first (length ids)) (leb (first + len) (length ids)) (eqb len 0) _ (lt-ltb _ _ pair.begins)
     (le-leb _ _ pair.ends) (ne_eqb len 0 pair.some)

@@ -64,7 +64,6 @@ parts_again : (order : Order) (l : Layout) → IsWhole l → Reads parts_at (tex
 unfolding text
 parts_again order l whole rest =
     let shape : IsShaped l = shaped l whole in
-    let words : AreWords l.words = ids_words l shape.rows l.words shape.rows.next_ids in
     let starts : AreWords l.starts = ids_words l shape.rows l.starts shape.starts.start_ids in
     let ids : AreSpecialIds l.special = special_ids l shape.rows (closed l whole.closed).special in
     let t4 : List ℕ = marks_text order (marks_of l) ++ rest in
@@ -86,7 +85,7 @@ parts_again order l whole rest =
       after_table = t3;
       after_lists = t4;
       head_read = ap dense_head_at all ∙ dense_head_again order l.flags t1;
-      rows_read = rows_again order (rows_of l) whole.read.rows words t2;
+      rows_read = rows_again order (rows_of l) whole.read.rows (ids_words l shape.rows l.words shape.rows.next_ids) t2;
       table_read = start_table_again order (start_table_of l) whole.read.table starts t3;
       lists_read = pattern_lists_again order (pattern_lists_of l) whole.read.lists t4;
       len = refl;

@@ -1,19 +1,15 @@
 -- Entering a state: what is kept where it is new, and what its size passes.
+use Rattle.std.proofs.lemmas.Bool.{cases_Bool}
 use Rattle.rx_spec.proofs.Prelude.{common_steps, ◌≡◌, ◌≢◌, ℕ, ◌+◌, ◌*◌, ◌/◌, ◌<◌, true, List, [], ◌∷◌, ◌++◌, length}
 use Rattle.rx_spec.proofs.Prelude.{get_or, length-append, refl, ap, sym, ◌∙◌, subst, arith, length-map, map-append}
 use Rattle.rx_spec.proofs.Prelude.{length_push, get_or-map, get_or_default, length-replicate, div-mul-add, pow_pos}
 use Rattle.rx_spec.proofs.Prelude.{div-add-mod', All-append, All-cons, All-nil, All-get_or, All-map, All, AllPairs}
 use Rattle.rx_spec.proofs.Prelude.{Contains, IsTrue, ◌↔◌, Bool, false, not, if◌then◌else◌, IsReached, Exceeds, max_id}
 use Rattle.rx_spec.proofs.Prelude.{determinizer_size, label_total, table_size, State}
-use Rattle.std.proofs.Math.Nat.{mul-le-mul_left}
+use Rattle.rx_determinize.proofs.Prelude.{AreRows, BuildErrorKind, CanAdd, IsFull, IsOver, IsWithin, IsWorking, Keying}
+use Rattle.rx_determinize.proofs.Prelude.{Layout, Met, Passes, SizeLimits, mul-le-mul_left, no_more, row_count}
+use Rattle.rx_determinize.proofs.Prelude.{state_size, states_of, stride, with_row}
 use Rattle.std.proofs.lemmas.List.Quantifiers.{all_pairs_push}
-use Rattle.rx_spec.specs.Sizes.{state_size}
-use Rattle.rx_dense.proofs.Rows.{no_more}
-use Rattle.rx_dense.specs.Builder.{with_row}
-use Rattle.rx_dense.specs.Layouts.{Layout, AreRows, row_count, stride}
-use Rattle.rx_build_error.specs.declared.BuildErrorKind.{BuildErrorKind}
-use Rattle.rx_determinize.specs.Working.{Keying, Met, SizeLimits, IsWorking, IsOver, states_of}
-use Rattle.rx_determinize.specs.Adding.{CanAdd, IsWithin, Passes, IsFull}
 
 -- there are fewer keys than ids
 pub few_keys : {k : Keying} {limits : SizeLimits} {met : Met} {l : Layout} → IsWorking k limits met l → AreRows l
@@ -157,18 +153,15 @@ module _ {k : Keying} {limits : SizeLimits} {met : Met} {l : Layout} {key : List
 -- ---- as interning answers it
 
 pub is_new_key : (b : Bool) {P : Type 0} → (IsTrue b ↔ P) → not b ≡ false → P
-is_new_key true iff e = iff.0 refl
-is_new_key false iff e = absurd cc
+is_new_key b iff e = grind (arith, common_steps, cases_Bool, iff.0)
 
 pub keys_at : (before after : List (List ℕ)) (key : List ℕ) (b : Bool)
     → after ≡ (if b then before ++ key ∷ [] else before) → b ≡ true → after ≡ before ++ key ∷ []
-keys_at before after key true keys e = keys
-keys_at before after key false keys e = absurd cc
+keys_at before after key b keys e = grind (arith, common_steps, cases_Bool)
 
 pub keys_kept : (before after : List (List ℕ)) (key : List ℕ) (b : Bool)
     → after ≡ (if b then before ++ key ∷ [] else before) → b ≡ false → after ≡ before
-keys_kept before after key true keys e = absurd cc
-keys_kept before after key false keys e = keys
+keys_kept before after key b keys e = grind (arith, common_steps, cases_Bool)
 
 -- what was met, by its parts
 abbrev pub met_of : List (List ℕ) → ℕ → ℕ → Met

@@ -7,20 +7,13 @@ use Rattle.rx_spec.proofs.Prelude.{slice_get-get_or, slice_get_past, slice_get_w
 use Rattle.rx_spec.proofs.Prelude.{Contains, IfSome, Vec, if◌then◌else◌, slice_get, sum_by, Global, Build, Node, Quit}
 use Rattle.rx_spec.proofs.Prelude.{Running, dead, AreReached, IsReached, built_entry, is_dead, next_node, node_label}
 use Rattle.rx_spec.proofs.Prelude.{max_id, Label, node_at, Anchored, label_total, State, dead_state}
+use Rattle.rx_determinize.proofs.Prelude.{keying, AreLabels, AreMatches, HasEntries, HasStates, IsEntering, IsLabelAt}
+use Rattle.rx_determinize.proofs.Prelude.{IsRouted, IsRowId, IsRowOf, Keying, Layout, Matches, Met, NamesPatterns}
+use Rattle.rx_determinize.proofs.Prelude.{Stepping, Work, entry_in, label_by, label_of, label_of_patterns, machine_of}
+use Rattle.rx_determinize.proofs.Prelude.{mode_place, nodes, pattern_lists, patterns_told, row_count, start_entries}
+use Rattle.rx_determinize.proofs.Prelude.{states_of, stride, table_of}
 use Rattle.rx_spec.specs.Machines.{label_of as label_from}
 use Rattle.rx_spec.specs.declared.Start.{Start}
-use Rattle.rx_dense.specs.Builder.{pattern_lists}
-use Rattle.rx_dense.specs.Layouts.{Layout, IsRowId, machine_of, mode_place, row_count, start_entries, stride, table_of}
-use Rattle.rx_expr.specs.NfaRows.{NamesPatterns}
-use Rattle.rx_order.specs.Ordering.{AreMatches, IsRouted, Matches, label_by, label_of_patterns}
-use Rattle.rx_stepper.specs.Keys.{label_of}
-use Rattle.rx_stepper.specs.Stepping.{Stepping}
-use Rattle.rx_determinize.specs.Building.{HasStates}
-use Rattle.rx_determinize.specs.Constructions.{Work}
-use Rattle.rx_determinize.specs.Filling.{HasEntries, IsEntering}
-use Rattle.rx_determinize.specs.Matching.{AreLabels, IsLabelAt, patterns_told}
-use Rattle.rx_determinize.specs.WorkLists.{IsRowOf, nodes}
-use Rattle.rx_determinize.specs.Working.{Keying, Met, entry_in, keying, states_of}
 use Rattle.rx_determinize.proofs.LabelLaws.{reached_named}
 use Rattle.rx_determinize.proofs.ModeLaws.{entries_twelve}
 use Rattle.rx_determinize.proofs.NodeLaws.{entry_goes_on, entry_plain, entry_whole, eoi_goes_on, next_whole}
@@ -102,8 +95,7 @@ module _ {w : Work} {l : Layout} (built : IsBuilt w l) where
     where
       -- entries come by six
       by_six : (p : Option ℕ) → l.pattern_starts ≡ p → (m : ℕ) × (length l.starts ≡ 12 + 6 * m)
-      by_six None e = (0, built.entries.count ∙ ap start_entries e)
-      by_six (Some n) e = (n, built.entries.count ∙ ap start_entries e)
+      by_six p e = grind (arith, common_steps, built.entries.count, start_entries)
 
   -- ---- rows
 
@@ -178,8 +170,7 @@ module _ {w : Work} {l : Layout} (built : IsBuilt w l) where
     told_label (Some v) some = at v.items some
       where
         at : (ks : List ℕ) → 0 < length ks → Label.Matches ks ≡ label_from ks
-        at [] h = absurd (omega arith)
-        at (j ∷ js) h = refl
+        at ks h = grind (arith, common_steps)
 
     some_told : (id : ℕ) (o : Option (Vec ℕ Global)) → get nat_cmp matches id ≡ o → IfSome o (λ v. 0 < length v.items)
     some_told id None e = tt
@@ -234,8 +225,7 @@ module _ {w : Work} {l : Layout} (built : IsBuilt w l) where
         absurd (omega (arith, ap length empty))
       where
         unlabelled : (ks : List ℕ) → label_from ks ≡ Label.Plain → ks ≡ []
-        unlabelled [] e = refl
-        unlabelled (j ∷ js) e = absurd (cc)
+        unlabelled ks e = grind (arith, common_steps)
 
     are_matches : AreMatches l matches
     are_matches = record {

@@ -2,10 +2,8 @@
 use Rattle.rx_spec.proofs.Prelude.{common_steps, ◌≡◌, ◌≢◌, ℕ, ◌+◌, ◌*◌, ◌/◌, ◌<◌, length, get_or, ap, sym, ◌∙◌, arith}
 use Rattle.rx_spec.proofs.Prelude.{inl, inr, ◌⊎◌, ◌≤◌, List, ⊎_elim, cases_lt, get_or-set_same, get_or-set_other}
 use Rattle.rx_spec.proofs.Prelude.{div-mul-add}
-use Rattle.std.proofs.Math.Nat.{mul-le-mul_right}
-use Rattle.rx_dense.proofs.Rows.{column_within, multiple_below}
-use Rattle.rx_dense.specs.Builder.{IsCopied, IsOutside, with_next, with_row}
-use Rattle.rx_dense.specs.Layouts.{Layout, AreRows, machine_of, row_count, stride, column}
+use Rattle.rx_determinize.proofs.Prelude.{AreRows, IsCopied, IsOutside, Layout, column, column_within, machine_of}
+use Rattle.rx_determinize.proofs.Prelude.{mul-le-mul_right, multiple_below, row_count, stride, with_next, with_row}
 
 -- two places of rows are one only where the rows and the columns are
 pub one_place : (s r c q d : ℕ) → c < s → d < s → r * s + c ≡ q * s + d → (r ≡ q) × (c ≡ d)

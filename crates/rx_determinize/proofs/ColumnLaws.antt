@@ -3,16 +3,10 @@ use Rattle.rx_spec.proofs.Prelude.{common_steps, ◌≡◌, ℕ, ◌+◌, ◌<�
 use Rattle.rx_spec.proofs.Prelude.{◌∙◌, arith, ⊎_elim, cases_lt, nat_tests, get_or-map, get_or_append_left, get_or_push}
 use Rattle.rx_spec.proofs.Prelude.{length-map, length_push, get_or-map-range_with_len, slice_index, eoi, Build, Node}
 use Rattle.rx_spec.proofs.Prelude.{next_node, class_by, column_by, ends_class, representatives, Nfa}
-use Rattle.rx_base.proofs.Classes.{ends_of-class}
-use Rattle.rx_base.specs.ByteClasses.{AreClasses, ends_of, alphabet_len}
+use Rattle.rx_determinize.proofs.Prelude.{AreClasses, AreUnits, Layout, Unit, alphabet_len, classes_of, column, ends_of}
+use Rattle.rx_determinize.proofs.Prelude.{ends_of-class, unit_number, unit_of}
 use Rattle.lemmas_tables.proofs.ClassNumbers.{representatives_counted, representative_class, representative_below}
 use Rattle.lemmas_tables.proofs.Classes.{column_leads}
-use Rattle.rx_base.specs.Unit.{unit_number}
-use Rattle.rx_dense.specs.Layouts.{Layout, column}
-use Rattle.rx_spec.specs.declared.Unit.{Unit}
-use Rattle.rx_stepper.specs.Stepping.{unit_of}
-use Rattle.rx_determinize.specs.Determinized.{classes_of}
-use Rattle.rx_determinize.specs.Constructions.{AreUnits}
 
 column_of_byte : (l : Layout) (unit : ℕ) → unit < 256 → column l unit ≡ slice_index l.classes unit
 column_of_byte l unit h = grind (arith, common_steps, nat_tests)

@@ -1,11 +1,9 @@
 -- The classes of bytes that the code makes are those of the definitions.
 use Rattle.rx_spec.proofs.Prelude.{◌≡◌, ℕ, ◌+◌, ◌<◌, ◌||◌, Bool, true, false, List, length, slice_index, refl, sym, ◌∙◌}
 use Rattle.rx_spec.proofs.Prelude.{arith, fill_by_all, contains, class_by, ends_class, parts, Nfa}
+use Rattle.rx_determinize.proofs.Prelude.{class_by-alike, classes_of, rows_part}
 use Rattle.std.proofs.Math.Bool.{or_comm}
-use Rattle.rx_base.proofs.Classes.{class_by-alike}
 use Rattle.lemmas_tables.proofs.ClassNumbers.{class_of_all}
-use Rattle.rx_expr.specs.NfaRows.{rows_part}
-use Rattle.rx_determinize.specs.Determinized.{classes_of}
 
 pub classes_are : (nfa : Nfa) (quit : ℕ) (byte_classes : Bool) (classes : List ℕ) → length classes ≡ 256
     → ((b : ℕ) → b < 256 → slice_index classes b ≡ class_by (ends_class nfa quit byte_classes) b)

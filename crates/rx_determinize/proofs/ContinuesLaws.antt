@@ -1,14 +1,10 @@
 -- A construction that goes on: what it had is there still, and what refuses it later refuses it.
 use Rattle.rx_spec.proofs.Prelude.{arith, ◌≡◌, ℕ, List, length, refl, ap, ap₂, sym, ◌∙◌, subst, [], common_steps}
 use Rattle.rx_spec.proofs.Prelude.{Exceeds, max_id, Nfa, last_id, table_size}
-use Rattle.rx_spec.specs.declared.Unit.{Unit}
-use Rattle.rx_dense.specs.Layouts.{Layout, AreRows, stride}
-use Rattle.rx_build_error.specs.declared.BuildErrorKind.{BuildErrorKind}
-use Rattle.rx_stepper.specs.Stepping.{HasOneKeyEach, SpellStates, Stepping}
-use Rattle.rx_determinize.specs.Constructions.{AreUnits, Continues, Extends, IsAnother, IsRefusal, IsStartedOver}
-use Rattle.rx_determinize.specs.Constructions.{IsWrittenOver, Serves, Work, keys_in}
-use Rattle.rx_determinize.specs.Determinized.{classes_of}
-use Rattle.rx_determinize.specs.Working.{IsOver, IsWorking, Keying, Met, SizeLimits, keying}
+use Rattle.rx_determinize.proofs.Prelude.{keying, AreRows, AreUnits, BuildErrorKind, Continues, Extends, HasOneKeyEach}
+use Rattle.rx_determinize.proofs.Prelude.{IsAnother, IsOver, IsRefusal, IsStartedOver, IsWorking, IsWrittenOver, Keying}
+use Rattle.rx_determinize.proofs.Prelude.{Layout, Met, Serves, SizeLimits, SpellStates, Stepping, Unit, Work}
+use Rattle.rx_determinize.proofs.Prelude.{classes_of, keys_in, stride}
 
 -- ---- tables of which words and start entries were written
 

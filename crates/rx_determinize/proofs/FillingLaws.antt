@@ -1,19 +1,12 @@
 -- What stays true of a table in which rows are written: where a row is added, and where a cell is set.
-use Rattle.rx_spec.proofs.Prelude.{common_steps, ◌≡◌, ◌≢◌, ℕ, ◌+◌, ◌*◌, ◌/◌, ◌<◌, ◌≤◌, true, false, Some, List, [], ◌∷◌}
+use Rattle.rx_spec.proofs.Prelude.{rules, common_steps, ◌≡◌, ◌≢◌, ℕ, ◌+◌, ◌*◌, ◌/◌, ◌<◌, ◌≤◌, true, Some, List, [], ◌∷◌}
 use Rattle.rx_spec.proofs.Prelude.{◌++◌, length, map, get_or, length-append, length-set, refl, ap, sym, ◌∙◌, subst}
 use Rattle.rx_spec.proofs.Prelude.{arith, ⊎_elim, map-append, cases_eq, slice_get_within, Bool, Option, IfSome}
 use Rattle.rx_spec.proofs.Prelude.{if◌then◌else◌, slice_get, ◌⊎◌, Node, Running, next_node, built_entry, State}
-use Rattle.rx_dense.specs.Builder.{with_next, with_row}
-use Rattle.rx_dense.specs.Layouts.{Layout, AreRows, IsRowId, machine_of, row_count, stride, column}
-use Rattle.rx_base.specs.ByteClasses.{alphabet_len}
-use Rattle.rx_dense.proofs.Rows.{column_within}
-use Rattle.rx_dense.proofs.Shaped.{rows_set}
-use Rattle.rx_stepper.specs.Stepping.{unit_of}
-use Rattle.rx_determinize.specs.WorkLists.{IsRowOf}
-use Rattle.rx_determinize.specs.Working.{Keying, Met, SizeLimits, IsWorking, keying, states_of, next_in, entry_in}
-use Rattle.rx_determinize.specs.Adding.{Adds}
-use Rattle.rx_determinize.specs.Constructions.{IsWrittenOver, Work, keys_in}
-use Rattle.rx_determinize.specs.Filling.{AreWritten, Grows, IsEntering, IsFilling}
+use Rattle.rx_determinize.proofs.Prelude.{keying, Adds, AreRows, AreWritten, Grows, IsEntering, IsFilling, IsRowId}
+use Rattle.rx_determinize.proofs.Prelude.{IsRowOf, IsWorking, IsWrittenOver, Keying, Layout, Met, SizeLimits, Work}
+use Rattle.rx_determinize.proofs.Prelude.{alphabet_len, column, column_within, entry_in, keys_in, machine_of, next_in}
+use Rattle.rx_determinize.proofs.Prelude.{row_count, rows_set, states_of, stride, unit_of, with_next, with_row}
 use Rattle.rx_determinize.proofs.ContinuesLaws.{continues_over, serves_later, started_over, written_over}
 use Rattle.rx_determinize.proofs.RowIds.{row_id}
 use Rattle.rx_determinize.proofs.WorkListLaws.{row_stays, old_key, slice_get-append, does}
@@ -30,15 +23,7 @@ grows_by {met} {after} {l} {m} {key} rows adds = at adds.interns.is_new adds.int
   where
     at : (is_new : Bool) → after.keys ≡ (if is_new then met.keys ++ key ∷ [] else met.keys)
         → m ≡ (if is_new then with_row l else l) → Grows met l after m
-    at true keys is_more = record {
-      more = key ∷ [];
-      keys = keys;
-      classes = ap (λ (n : Layout). n.classes) is_more;
-      nexts = λ row unit within is_unit.
-          ap (λ (n : Layout). (machine_of n).next row unit) is_more ∙ next_more l rows row unit within is_unit;
-      entries = λ mode start. ap (λ (n : Layout). entry_in n mode start) is_more;
-    }
-    at false keys is_same = grind (arith, common_steps)
+    at is_new keys is_more = search (rules, machine_of, next_more, entry_in)
 
 module _ (k : Keying) {met : Met} {l : Layout} {after : Met} {m : Layout} (grows : Grows met l after m) where
   -- a node's row

@@ -1,12 +1,11 @@
 -- The labels of reached states name patterns of the NFA.
-use Rattle.rx_spec.proofs.Prelude.{arith, ◌≡◌, ℕ, ◌<◌, Bool, true, false, Option, Some, None, List, [], ◌∷◌, refl}
-use Rattle.rx_spec.proofs.Prelude.{subst, common_steps, All-append, All-nil, All, if◌then◌else◌, flat_map, Build, Node}
-use Rattle.rx_spec.proofs.Prelude.{Quit, Running, next_node, built_entry, IsReached, start_node, Anchored, Row, State}
-use Rattle.rx_spec.proofs.Prelude.{cut, decided_rows, pattern_of, row_at, step}
-use Rattle.rx_spec.specs.declared.MatchKind.{MatchKind}
+use Rattle.std.proofs.lemmas.Bool.{cases_Bool}
+use Rattle.rx_spec.proofs.Prelude.{arith, ◌≡◌, ℕ, ◌<◌, Bool, Option, List, [], ◌∷◌, refl, subst, common_steps}
+use Rattle.rx_spec.proofs.Prelude.{All-append, All-nil, All, if◌then◌else◌, flat_map, Build, Node, Quit, Running}
+use Rattle.rx_spec.proofs.Prelude.{next_node, built_entry, IsReached, start_node, Anchored, Row, State, cut}
+use Rattle.rx_spec.proofs.Prelude.{decided_rows, pattern_of, row_at, step}
+use Rattle.rx_determinize.proofs.Prelude.{MatchKind, NamesPatterns, run-within}
 use Rattle.rx_spec.specs.declared.Start.{Start}
-use Rattle.lemmas_walks.proofs.Words.{run-within}
-use Rattle.rx_expr.specs.NfaRows.{NamesPatterns}
 
 module _ (count : ℕ) where
   abbrev AreBelow : List ℕ → Type 0
@@ -14,8 +13,7 @@ module _ (count : ℕ) where
 
   pattern_named : (rows : List Row) (q : ℕ) (row : Row) → NamesPatterns count rows → row_at rows q ≡ row
       → AreBelow (pattern_of row)
-  pattern_named rows q (Row.Match k) names e = grind (arith, common_steps)
-  pattern_named rows q _ names e = All-nil (λ k. k < count)
+  pattern_named rows q row names e = grind (arith, common_steps, All-nil)
 
   rows_named : (rows : List Row) (qs : List ℕ) → NamesPatterns count rows
       → AreBelow (flat_map (λ q. pattern_of (row_at rows q)) qs)
@@ -35,16 +33,13 @@ module _ (count : ℕ) where
     step_named kind s unit = rows_named b.nfa.rows (cut kind b.nfa.rows (decided_rows b.nfa unit s)) named
 
     chosen_named : (c : Bool) (x y : Node) → IsNamed x → IsNamed y → IsNamed (if c then x else y)
-    chosen_named true x y f g = f
-    chosen_named false x y f g = g
+    chosen_named c x y f g = grind (arith, common_steps, cases_Bool)
 
     next_named : (node : Node) (unit : ℕ) → IsNamed (next_node b node unit)
-    next_named Quit unit = All-nil (λ k. k < count)
-    next_named (Running s) unit = grind (arith, common_steps, step_named)
+    next_named node unit = grind (arith, common_steps, All-nil, step_named)
 
     start_named : (row : Option ℕ) (start : Start) → IsNamed (start_node b.nfa row start)
-    start_named None start = All-nil (λ k. k < count)
-    start_named (Some row) start = All-nil (λ k. k < count)
+    start_named row start = grind (arith, common_steps, All-nil)
 
     entry_named : (mode : Anchored) (start : Start) → IsNamed (built_entry b mode start)
     entry_named mode start = grind (arith, common_steps)

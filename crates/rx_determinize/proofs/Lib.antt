@@ -1,3 +1,5 @@
+-- what proofs take from other modules
+pub mod Prelude
 -- the loop that enters all states that are reached
 pub mod WorkListLaws
 -- a state that is entered
@@ -35,8 +37,5 @@ pub mod BuiltLaws
 pub mod LimitLaws
 -- tables that are put in order
 pub mod DeterminizedLaws
--- whether an NFA has a Unicode word assertion
--- whether a build is supported
-pub mod SupportLaws
 -- the start entries of modes
 pub mod ModeLaws

@@ -3,24 +3,15 @@ use Rattle.rx_spec.proofs.Prelude.{common_steps, ◌≡◌, ℕ, ◌+◌, ◌*�
 use Rattle.rx_spec.proofs.Prelude.{ap₂, sym, ◌∙◌, subst, arith, div-add-mod', IfSome, is_some, Build, AreReached}
 use Rattle.rx_spec.proofs.Prelude.{BuildFits, Exceeds, IsSupported, IsUnsupported, max_id, Nfa, determinizer_size}
 use Rattle.rx_spec.proofs.Prelude.{label_total, last_id, table_size, State}
-use Rattle.rx_spec.specs.Sizes.{build_stride}
+use Rattle.rx_determinize.proofs.Prelude.{keying, AreClasses, AreLabels, AreRows, AreUnits, AreWritten, Beginning}
+use Rattle.rx_determinize.proofs.Prelude.{BuildErrorKind, Continues, HasEntries, HasOneKeyEach, HasStates, IsBegunWith}
+use Rattle.rx_determinize.proofs.Prelude.{IsEntering, IsOver, IsRefusal, IsWorking, Keying, Layout, Matches, Met}
+use Rattle.rx_determinize.proofs.Prelude.{NamesPatterns, Settings, SizeLimits, SpellStates, Stepping, Work, build_in}
+use Rattle.rx_determinize.proofs.Prelude.{build_stride, classes_of, keys_in, limits_of, none_met, shaped_initial}
+use Rattle.rx_determinize.proofs.Prelude.{start_entries, states_of, stride}
 use Rattle.rx_spec.specs.Sizes as sizes
-use Rattle.rx_base.specs.ByteClasses.{AreClasses}
-use Rattle.rx_dense.specs.Builder.{Beginning}
-use Rattle.rx_dense.proofs.Shaped.{shaped_initial}
-use Rattle.rx_dense.specs.Layouts.{Layout, AreRows, start_entries, stride}
 use Rattle.lemmas_tables.proofs.Sizes.{determinizer_grows, exceeds_exactly, ids_grow, labels_grow, table_grows}
 use Rattle.rx_build_error.specs.Refusals.{IsRefused, TableRefused}
-use Rattle.rx_build_error.specs.declared.BuildErrorKind.{BuildErrorKind}
-use Rattle.rx_expr.specs.NfaRows.{NamesPatterns}
-use Rattle.rx_order.specs.Ordering.{Matches}
-use Rattle.rx_stepper.specs.Stepping.{HasOneKeyEach, SpellStates, Stepping}
-use Rattle.rx_determinize.specs.Constructions.{AreUnits, Continues, IsRefusal, Work, keys_in}
-use Rattle.rx_determinize.specs.Determinized.{IsBegunWith, Settings, build_in, classes_of, limits_of}
-use Rattle.rx_determinize.specs.Building.{HasStates}
-use Rattle.rx_determinize.specs.Filling.{AreWritten, HasEntries, IsEntering}
-use Rattle.rx_determinize.specs.Matching.{AreLabels}
-use Rattle.rx_determinize.specs.Working.{none_met, IsOver, IsWorking, Keying, Met, SizeLimits, keying, states_of}
 use Rattle.rx_determinize.proofs.ContinuesLaws.{same_keys}
 use Rattle.rx_determinize.proofs.BuiltLaws.{IsBuilt, has_states, reached, states_count}
 use Rattle.rx_determinize.proofs.StartLaws.{working_begun, written_begun}

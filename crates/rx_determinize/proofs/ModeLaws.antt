@@ -3,11 +3,8 @@ use Rattle.rx_spec.proofs.Prelude.{common_steps, ◌≤◌, ◌≡◌, ℕ, ◌+
 use Rattle.rx_spec.proofs.Prelude.{subst, arith, then_some, Contains, IfSome, is_some, slice_get, Node, IsReached}
 use Rattle.rx_spec.proofs.Prelude.{built_modes, is_dead_state, start_node, Anchored, has_anchored, has_unanchored}
 use Rattle.rx_spec.proofs.Prelude.{start_state}
+use Rattle.rx_determinize.proofs.Prelude.{Continues, FindsRow, HasEntries, Layout, StartsAt, Work, keys_in, with_start}
 use Rattle.rx_spec.specs.declared.Start.{Start}
-use Rattle.rx_dense.specs.Builder.{with_start}
-use Rattle.rx_dense.specs.Layouts.{Layout}
-use Rattle.rx_determinize.specs.Constructions.{Continues, Work, keys_in}
-use Rattle.rx_determinize.specs.Filling.{FindsRow, HasEntries, StartsAt}
 use Rattle.rx_determinize.proofs.StartLaws.{SetsStart, anchored_built, anchored_row, pattern_built, pattern_row}
 use Rattle.rx_determinize.proofs.StartLaws.{row_reached}
 

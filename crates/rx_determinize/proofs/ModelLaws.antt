@@ -5,16 +5,12 @@ use Rattle.rx_spec.proofs.Prelude.{cases_lt, get_or-set_at, get_or-replicate, ge
 use Rattle.rx_spec.proofs.Prelude.{get_or_from_slice_get, slice_get_within, same_Some, MatchOption, slice_get}
 use Rattle.rx_spec.proofs.Prelude.{slice_index_or, IsReached, Node, Running, is_dead_state, next_node, contains, State}
 use Rattle.rx_spec.proofs.Prelude.{step}
+use Rattle.rx_determinize.proofs.Prelude.{keying, AreModels, AreRows, Continues, IsAllAlone, IsAlone, IsCopied}
+use Rattle.rx_determinize.proofs.Prelude.{IsEntering, IsKeyAt, IsModel, IsReady, IsRowOf, IsStepping, IsWrittenOver}
+use Rattle.rx_determinize.proofs.Prelude.{Keying, Layout, Met, Serves, Stepping, Work, alphabet_len, begun_at, kept_in}
+use Rattle.rx_determinize.proofs.Prelude.{keys_in, lone_state, machine_of, model_row, nodes, none_stepped, states_of}
+use Rattle.rx_determinize.proofs.Prelude.{stepped, stride, unit_of}
 use Rattle.std.proofs.lemmas.List.{length-set}
-use Rattle.rx_base.specs.ByteClasses.{alphabet_len}
-use Rattle.rx_dense.specs.Builder.{IsCopied}
-use Rattle.rx_dense.specs.Layouts.{Layout, AreRows, machine_of, stride}
-use Rattle.rx_stepper.specs.Stepping.{IsAlone, Stepping, lone_state, stepped, unit_of}
-use Rattle.rx_determinize.specs.Constructions.{Continues, IsWrittenOver, Serves, Work, keys_in}
-use Rattle.rx_determinize.specs.Filling.{IsEntering, IsReady, IsStepping, begun_at, none_stepped}
-use Rattle.rx_determinize.specs.Models.{AreModels, IsAllAlone, IsKeyAt, IsModel, kept_in, model_row}
-use Rattle.rx_determinize.specs.WorkLists.{IsRowOf, nodes}
-use Rattle.rx_determinize.specs.Working.{Keying, Met, keying, states_of}
 use Rattle.rx_determinize.proofs.CellLaws.{next_beside, next_copied}
 use Rattle.rx_determinize.proofs.ColumnLaws.{unit_in}
 use Rattle.rx_determinize.proofs.ContinuesLaws.{same_keys}

@@ -1,20 +1,15 @@
 -- The state to which a column leads.
+use Rattle.std.proofs.lemmas.Bool.{cases_Bool}
 use Rattle.rx_spec.proofs.Prelude.{common_steps, ◌≡◌, ℕ, suc, ◌+◌, ◌*◌, ◌/◌, ◌<◌, true, false, List, refl, ap, sym, ◌∙◌}
 use Rattle.rx_spec.proofs.Prelude.{subst, arith, div-mul-add, pow_pos, Bool, Result, Ok, Err, IfErr, IfOk, OnOk}
 use Rattle.rx_spec.proofs.Prelude.{MatchBool, [], contains, Build, Node, Running, IsReached, is_dead_state, next_node}
 use Rattle.rx_spec.proofs.Prelude.{State, step}
+use Rattle.rx_determinize.proofs.Prelude.{keying, Adds, AreRows, CanAdd, FindsRow, IsKeyOf, IsOver, IsRowId, IsRowOf}
+use Rattle.rx_determinize.proofs.Prelude.{IsStepped, IsWorking, IsWrittenOver, Keying, Layout, Met, Serves, SizeLimits}
+use Rattle.rx_determinize.proofs.Prelude.{Stepping, Work, alphabet_len, keys_in, no_more, states_of, stepped, stride}
+use Rattle.rx_determinize.proofs.Prelude.{unit_of, zero_id}
 use Rattle.rx_determinize.proofs.FillingLaws.{adds_over, grows_by}
-use Rattle.rx_dense.proofs.Rows.{no_more}
-use Rattle.rx_dense.specs.Layouts.{Layout, AreRows, IsRowId, stride}
-use Rattle.rx_base.specs.ByteClasses.{alphabet_len}
-use Rattle.rx_dense.proofs.Shaped.{zero_id}
-use Rattle.rx_stepper.specs.Stepping.{Stepping, IsKeyOf, stepped, unit_of}
 use Rattle.rx_build_error.specs.declared.BuildError.{BuildError}
-use Rattle.rx_determinize.specs.WorkLists.{IsRowOf}
-use Rattle.rx_determinize.specs.Working.{IsOver, IsWorking, Keying, Met, SizeLimits, keying, states_of}
-use Rattle.rx_determinize.specs.Adding.{Adds, CanAdd}
-use Rattle.rx_determinize.specs.Constructions.{IsWrittenOver, Serves, Work, keys_in}
-use Rattle.rx_determinize.specs.Filling.{FindsRow, IsStepped}
 use Rattle.rx_determinize.proofs.ContinuesLaws.{continues_grown, serves_later}
 use Rattle.rx_determinize.proofs.WorkListLaws.{interned_row, reached_step}
 use Rattle.rx_determinize.proofs.ColumnLaws.{unit_in}
@@ -44,8 +39,7 @@ module _ (l : Layout) {s t : Stepping} (same : s ≡ t) (limits : SizeLimits) wh
   over_by r over = subst (λ (u : Stepping). IfErr r (λ error. IsOver (keying u l) limits l error.kind)) same over
 
 pub in_true : {P : Type 0} (Q : Type 0) (b : Bool) → b ≡ true → P → MatchBool b P Q
-in_true Q true e p = p
-in_true Q false e p = absurd cc
+in_true Q b e p = grind (arith, common_steps, cases_Bool)
 
 -- a dead state has row 0
 pub dead_is_row : (states : List State) (s : State) (l : Layout) → is_dead_state s ≡ true

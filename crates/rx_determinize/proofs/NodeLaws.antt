@@ -1,11 +1,10 @@
 -- The nodes of a build by their rows.
-use Rattle.rx_spec.proofs.Prelude.{arith, ◌≡◌, ℕ, zero, suc, true, false, Some, List, [], map, refl, ⊎_elim}
-use Rattle.rx_spec.proofs.Prelude.{common_steps, cases_Bool, when_false, get_or_from_slice_get, slice_get, Build, Node}
-use Rattle.rx_spec.proofs.Prelude.{Quit, Running, dead, is_dead, is_dead_state, next_node, built_entry, node_label}
-use Rattle.rx_spec.proofs.Prelude.{Label, Facts, Nfa, node_at, Anchored, State, dead_state, state_at, step}
-use Rattle.rx_spec.specs.declared.MatchKind.{MatchKind}
+use Rattle.rx_spec.proofs.Prelude.{rules, arith, ◌≡◌, ℕ, true, false, Some, List, [], ⊎_elim, common_steps, cases_Bool}
+use Rattle.rx_spec.proofs.Prelude.{when_false, get_or_from_slice_get, slice_get, Build, Node, Quit, Running, dead}
+use Rattle.rx_spec.proofs.Prelude.{is_dead, is_dead_state, next_node, built_entry, node_label, Label, Facts, Nfa}
+use Rattle.rx_spec.proofs.Prelude.{node_at, Anchored, State, dead_state, state_at, step}
+use Rattle.rx_determinize.proofs.Prelude.{IsRowOf, MatchKind, nodes}
 use Rattle.rx_spec.specs.declared.Start.{Start}
-use Rattle.rx_determinize.specs.WorkLists.{nodes, IsRowOf}
 
 -- a state that is made and is dead has no facts
 state_whole : (nfa : Nfa) (qs : List ℕ) (facts : Facts) (label : List ℕ)
@@ -22,8 +21,7 @@ abbrev pub IsWhole : Node → Type 0
 IsWhole node = is_dead node ≡ true → node ≡ dead
 
 pub next_whole : (b : Build) (node : Node) (unit : ℕ) → IsWhole (next_node b node unit)
-next_whole b Quit unit = λ e. refl
-next_whole b (Running s) unit = grind (arith, common_steps, step_whole)
+next_whole b node unit = grind (arith, common_steps, step_whole)
 
 pub entry_whole : (b : Build) (mode : Anchored) (start : Start) → IsWhole (built_entry b mode start)
 entry_whole b mode start = grind (arith, common_steps)
@@ -40,9 +38,7 @@ node_of_row states node row whole is_row = ⊎_elim dies lives (cases_Bool (is_d
     lives e = at row (when_false (row ≡ 0) (slice_get (nodes states) row ≡ Some node) e is_row)
       where
         at : (row : ℕ) → slice_get (nodes states) row ≡ Some node → node_at states row ≡ node
-        at zero there = cc
-        at (suc zero) there = cc
-        at (suc (suc i)) there = get_or_from_slice_get (map (λ s. Running s) states) i node dead there
+        at row there = search (rules, get_or_from_slice_get)
 
 -- only quit has row 1
 pub quit_of_row : (states : List State) (node : Node) (row : ℕ) → row ≡ 1 → IsRowOf states node row → node ≡ Quit

@@ -1,15 +1,13 @@
 -- A table whose rows lie at other places is the same powerset machine.
-use Rattle.rx_spec.proofs.Prelude.{common_steps, ◌≡◌, ℕ, zero, suc, ◌+◌, ◌-◌, ◌<◌, ◌≤◌, List, length, map, get_or}
-use Rattle.rx_spec.proofs.Prelude.{slice_index, refl, ap, sym, subst, ◌∙◌, ⊎_elim, arith, cases_lt, get_or_default}
+use Rattle.rx_spec.proofs.Prelude.{cases_eq, common_steps, ◌≡◌, ℕ, zero, suc, ◌+◌, ◌-◌, ◌<◌, ◌≤◌, List, length, map}
+use Rattle.rx_spec.proofs.Prelude.{get_or, slice_index, ap, sym, subst, ◌∙◌, ⊎_elim, arith, cases_lt, get_or_default}
 use Rattle.rx_spec.proofs.Prelude.{All-from_get_or, All-get_or, get_or-map-range_with_len, length-map-range_with_len}
 use Rattle.rx_spec.proofs.Prelude.{range_with_len, Build, AreReached, IsReached, dead, next_node, node_label, IsPower}
 use Rattle.rx_spec.proofs.Prelude.{node_at, State, dead_state, Table}
+use Rattle.rx_determinize.proofs.Prelude.{HasStates, Layout, Matches, label_by, machine_of, row_count, table_of}
 use Rattle.rx_spec.specs.Builds as builds
 use Rattle.rx_order.proofs.Runs.{HasMoved, high_row, label_at, next_at, permuted_moved}
-use Rattle.rx_dense.specs.Layouts.{Layout, machine_of, table_of, row_count}
-use Rattle.rx_order.specs.Ordering.{Matches, label_by}
 use Rattle.rx_order.specs.Permuted.{IsPermuted}
-use Rattle.rx_determinize.specs.Building.{HasStates}
 
 -- the node of a row behind dead and quit
 node_high : (states : List State) (row : ℕ) → 1 < row → row < length states + 2
@@ -22,9 +20,7 @@ node_high states (suc (suc i)) high h =
 
 -- of other rows the states say nothing
 node_low : (states other : List State) (row : ℕ) → row ≤ 1 → node_at states row ≡ node_at other row
-node_low states other zero low = refl
-node_low states other (suc zero) low = refl
-node_low states other (suc (suc i)) low = absurd (omega arith)
+node_low states other row low = grind (arith, common_steps, cases_eq, cases_lt)
 
 module _ {b : Build} {t u : Table} (m : HasMoved t u) (by : IsPower t b) where
   abbrev states : List State
@@ -41,9 +37,7 @@ module _ {b : Build} {t u : Table} (m : HasMoved t u) (by : IsPower t b) where
 
   -- dead and quit keep their numbers, and the other rows are behind them still
   number_low : (row : ℕ) → row ≤ 1 → number row ≡ row
-  number_low zero low = m.names.dead
-  number_low (suc zero) low = m.names.quit
-  number_low (suc (suc i)) low = absurd (omega (arith, low))
+  number_low row low = grind (arith, common_steps, cases_eq, cases_lt, m.names.dead, m.names.quit)
 
   number_below : (row : ℕ) → row < t.size → number row < t.size
   number_below row h = omega (arith, m.size, m.names.names_below row h)

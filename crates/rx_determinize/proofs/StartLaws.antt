@@ -1,26 +1,24 @@
 -- Start entries that are set, and the states in which searches start.
-use Rattle.rx_spec.proofs.Prelude.{common_steps, ◌≡◌, ◌≢◌, ℕ, zero, suc, ◌+◌, ◌*◌, ◌/◌, ◌%◌, ◌<◌, Bool, true, false}
-use Rattle.rx_spec.proofs.Prelude.{Option, Some, None, [], ◌∷◌, ◌++◌, length, get_or, refl, ap, sym, ◌∙◌, subst, arith}
+use Rattle.rx_spec.proofs.Prelude.{cases_lt, common_steps, ◌≡◌, ◌≢◌, ℕ, zero, suc, ◌+◌, ◌*◌, ◌/◌, ◌%◌, ◌<◌, Bool, true}
+use Rattle.rx_spec.proofs.Prelude.{false, Option, Some, [], ◌∷◌, ◌++◌, length, get_or, refl, ap, sym, ◌∙◌, subst, arith}
 use Rattle.rx_spec.proofs.Prelude.{⊎_elim, cases_eq, Contains-append_right, get_or-map-range_with_len}
 use Rattle.rx_spec.proofs.Prelude.{length-map-range_with_len, pow_pos, slice_get_within, Contains, IfSome}
 use Rattle.rx_spec.proofs.Prelude.{if◌then◌else◌, nat_lt, slice_get, Build, IsReached, built_entry, built_modes}
 use Rattle.rx_spec.proofs.Prelude.{is_dead_state, dead, next_node, start_node, Nfa, then_some, Anchored, has_anchored}
 use Rattle.rx_spec.proofs.Prelude.{has_unanchored, start_state}
+use Rattle.std.proofs.lemmas.Bool.{cases_Bool}
+use Rattle.rx_determinize.proofs.Prelude.{context_at-number, keying, AreWritten, Beginning, Continues, FindsRow}
+use Rattle.rx_determinize.proofs.Prelude.{IsEntering, IsRowOf, IsStartedOver, IsWord-nil, IsWorking, Keying, Layout}
+use Rattle.rx_determinize.proofs.Prelude.{Met, SizeLimits, Work, context_number, entry_in, initial, keys_in, mode_place}
+use Rattle.rx_determinize.proofs.Prelude.{none_met, rows_kept, run-nil, states_of, stride, with_start, zero_at}
 use Rattle.std.proofs.lemmas.List.{length-set}
 use Rattle.rx_spec.specs.Builds.{pattern_modes}
 use Rattle.rx_spec.specs.Contexts.{all_starts as all_contexts}
 use Rattle.rx_spec.specs.declared.Start.{Start}
-use Rattle.lemmas_walks.proofs.Words.{IsWord-nil, run-nil}
-use Rattle.rx_dense.specs.Builder.{Beginning, initial, with_start}
-use Rattle.rx_dense.specs.Layouts.{Layout, context_number, mode_place, stride}
-use Rattle.rx_dense.proofs.Shaped.{rows_kept, zero_at}
-use Rattle.rx_determinize.specs.Constructions.{Continues, IsStartedOver, Work, keys_in}
-use Rattle.rx_determinize.specs.Filling.{AreWritten, FindsRow, IsEntering}
-use Rattle.rx_determinize.specs.WorkLists.{IsRowOf}
-use Rattle.rx_determinize.specs.Working.{none_met, IsWorking, Keying, Met, SizeLimits, entry_in, keying, states_of}
 use Rattle.rx_determinize.proofs.CellLaws.{one_place}
 use Rattle.rx_determinize.proofs.ContinuesLaws.{continues_over, serves_later}
 use Rattle.rx_determinize.proofs.FillingLaws.{written_kept}
+use Rattle.rx_order.proofs.MarkedRows.{context_at as start_at}
 use Rattle.lemmas_walks.proofs.HalfSearches.{has_yes}
 
 -- ---- the place of a start entry
@@ -37,20 +35,10 @@ mode_at (suc (suc k)) = Anchored.Pattern k
 
 place_of_group : (mode : Anchored) → mode_place mode ≡ group mode * 6
 unfolding group
-place_of_group (Anchored.Pattern k) = omega arith
-place_of_group _ = refl
-
-start_at : ℕ → Start
-start_at zero = Start.NonWordByte
-start_at (suc zero) = Start.WordByte
-start_at (suc (suc zero)) = Start.Text
-start_at (suc (suc (suc zero))) = Start.LineLF
-start_at (suc (suc (suc (suc zero)))) = Start.LineCR
-start_at (suc (suc (suc (suc (suc n))))) = Start.CustomLineTerminator
+place_of_group mode = grind (arith, common_steps)
 
 pub number_low : (start : Start) → context_number start < 6
-number_low Start.NonWordByte = omega arith
-number_low _ = omega arith
+number_low start = grind (arith, common_steps)
 
 abbrev pub place_of : Anchored → Start → ℕ
 place_of mode start = mode_place mode + context_number start
@@ -62,18 +50,7 @@ one_start mode other start context e = grind (arith, common_steps, group, place_
 
 group_of_mode : (n : ℕ) → group (mode_at n) ≡ n
 unfolding group mode_at
-group_of_mode zero = refl
-group_of_mode (suc zero) = refl
-group_of_mode (suc (suc k)) = refl
-
-number_of_start : (n : ℕ) → n < 6 → context_number (start_at n) ≡ n
-unfolding start_at
-number_of_start zero low = refl
-number_of_start (suc zero) low = refl
-number_of_start (suc (suc zero)) low = refl
-number_of_start (suc (suc (suc zero))) low = refl
-number_of_start (suc (suc (suc (suc zero)))) low = refl
-number_of_start (suc (suc (suc (suc (suc n))))) low = omega arith
+group_of_mode n = grind (arith, common_steps, cases_eq, cases_lt)
 
 -- the mode and the context of a place
 pub start_of_place : (place : ℕ) → (mode : Anchored) × (start : Start) × (place_of mode start ≡ place)
@@ -83,7 +60,7 @@ start_of_place place =
     let low : place % 6 < 6 = omega arith in (
       mode,
       start,
-      omega (arith, place_of_group mode, group_of_mode (place / 6), number_of_start (place % 6) low),
+      omega (arith, place_of_group mode, group_of_mode (place / 6), context_at-number (place % 6) low),
     )
 
 -- ---- an entry that is set
@@ -244,29 +221,20 @@ module _ {w v : Work} {l n : Layout} {mode : Anchored} {start : Start} (sets : S
 pub row_reached : (b : Build) (mode : Anchored) (start : Start) (row : Option ℕ)
     → IfSome row (λ _. Contains (built_modes b) mode) → built_entry b mode start ≡ start_node b.nfa row start
     → IfSome row (λ q. is_dead_state (start_state b.nfa q start) ≡ false → IsReached b (start_state b.nfa q start))
-row_reached b mode start None built is = tt
-row_reached b mode start (Some q) built is = λ alive. start_reached b mode start q built is alive
+row_reached b mode start row built is = grind (arith, common_steps, start_reached)
 
 -- the number of each context, by its place
 pub context_at : (i : ℕ) (d : Start) → i < 6 → context_number (get_or all_contexts i d) ≡ i
-context_at zero d low = refl
-context_at (suc zero) d low = refl
-context_at (suc (suc zero)) d low = refl
-context_at (suc (suc (suc zero))) d low = refl
-context_at (suc (suc (suc (suc zero)))) d low = refl
-context_at (suc (suc (suc (suc (suc zero))))) d low = refl
-context_at (suc (suc (suc (suc (suc (suc i)))))) d low = absurd (omega arith)
+context_at i d low = grind (arith, common_steps, cases_eq, cases_lt)
 
 -- ---- the rows of modes
 
 no_row : (c : Bool) (nfa : Nfa) (row : ℕ) (start : Start)
     → (if c then start_node nfa (Some row) start else dead) ≡ start_node nfa (then_some c row) start
-no_row true nfa row start = refl
-no_row false nfa row start = refl
+no_row c nfa row start = grind (arith, common_steps, cases_Bool)
 
 where_some : (c : Bool) (row : ℕ) (P : Type 0) → (c ≡ true → P) → IfSome (then_some c row) (λ _. P)
-where_some true row P f = f refl
-where_some false row P f = tt
+where_some c row P f = grind (arith, common_steps, cases_Bool)
 
 pub anchored_row : (b : Build) (start : Start) → built_entry b Anchored.Yes start
     ≡ start_node b.nfa (then_some (has_anchored b.start_kind) b.nfa.start_anchored) start
@@ -282,5 +250,4 @@ pattern_row b k start e = grind (arith, common_steps)
 
 pub pattern_built : (b : Build) (k : ℕ) → b.pattern_starts ≡ true → (row : Option ℕ)
     → slice_get b.nfa.start_patterns k ≡ row → IfSome row (λ _. Contains (built_modes b) (Anchored.Pattern k))
-pattern_built b k e None is = tt
-pattern_built b k e (Some row) is = has_pattern b k e (slice_get_within b.nfa.start_patterns k row is)
+pattern_built b k e row is = grind (arith, common_steps, has_pattern, slice_get_within, b.nfa.start_patterns)

@@ -3,15 +3,11 @@ use Rattle.rx_spec.proofs.Prelude.{common_steps, ◌≡◌, ℕ, ◌+◌, ◌*�
 use Rattle.rx_spec.proofs.Prelude.{[], length, refl, ap, sym, ◌∙◌, subst, arith, inl, inr, ◌⊎◌, ⊎_elim, cases_lt}
 use Rattle.rx_spec.proofs.Prelude.{All-get_or, get_or_from_slice_get, slice_get_within, IfSome, slice_get, Node, Quit}
 use Rattle.rx_spec.proofs.Prelude.{Running, IsReached, next_node, contains}
-use Rattle.rx_dense.specs.Builder.{with_next}
-use Rattle.rx_dense.specs.Layouts.{Layout, IsRowId, column, row_count, stride}
-use Rattle.rx_base.specs.ByteClasses.{alphabet_len}
-use Rattle.rx_stepper.specs.Stepping.{IsAlone, Stepping, stepped, unit_of}
-use Rattle.rx_determinize.specs.Constructions.{IsAnother, IsWrittenOver, Work, keys_in}
-use Rattle.rx_determinize.specs.Filling.{AreWritten, FindsRow, IsEntering, IsFilling, IsReady, IsStepped, IsStepping}
-use Rattle.rx_determinize.specs.Filling.{begun_at, next_column, none_stepped}
-use Rattle.rx_determinize.specs.WorkLists.{IsRowOf, nodes}
-use Rattle.rx_determinize.specs.Working.{IsWorking, Keying, Met, keying, states_of}
+use Rattle.rx_determinize.proofs.Prelude.{keying, AreWritten, FindsRow, IsAlone, IsAnother, IsEntering, IsFilling}
+use Rattle.rx_determinize.proofs.Prelude.{IsReady, IsRowId, IsRowOf, IsStepped, IsStepping, IsWorking, IsWrittenOver}
+use Rattle.rx_determinize.proofs.Prelude.{Keying, Layout, Met, Stepping, Work, alphabet_len, begun_at, column, keys_in}
+use Rattle.rx_determinize.proofs.Prelude.{next_column, nodes, none_stepped, row_count, states_of, stepped, stride}
+use Rattle.rx_determinize.proofs.Prelude.{unit_of, with_next}
 use Rattle.rx_determinize.specs.declared.construction.Last.{Last}
 use Rattle.rx_determinize.specs.declared.construction.Progress.{Progress}
 use Rattle.rx_determinize.proofs.ColumnLaws.{unit_in}

@@ -6,11 +6,10 @@ use Rattle.rx_spec.proofs.Prelude.{slice_get-map, slice_get-get_or, slice_get_wi
 use Rattle.rx_spec.proofs.Prelude.{AllPairs, Contains, slice_get, if◌then◌else◌, MatchBool, Anchored, run, IsWord}
 use Rattle.rx_spec.proofs.Prelude.{State, Build, Node, Quit, Running, is_dead_state, next_node, built_entry, IsReached}
 use Rattle.rx_spec.proofs.Prelude.{AreReached, Exceeds}
+use Rattle.rx_determinize.proofs.Prelude.{AreStartRows, Interns, IsRowOf, IsWord-append, IsWord-cons, IsWord-head}
+use Rattle.rx_determinize.proofs.Prelude.{IsWord-nil, IsWord-tail, IsWorkList, next_row, run-append, run-cons, run-nil}
 use Rattle.std.specs.Option.{option_map}
 use Rattle.rx_spec.specs.declared.Start.{Start}
-use Rattle.lemmas_walks.proofs.Words.{run-append, run-nil, run-cons, IsWord-append, IsWord-cons, IsWord-nil}
-use Rattle.lemmas_walks.proofs.Words.{IsWord-head, IsWord-tail}
-use Rattle.rx_determinize.specs.WorkLists.{next_row, IsRowOf, IsWorkList, AreStartRows, Interns}
 
 pub slice_get-append : {X : Type 0} (xs ys : List X) (i : ℕ) (x : X) → slice_get xs i ≡ Some x
     → slice_get (xs ++ ys) i ≡ Some x
@@ -97,8 +96,7 @@ module _ {b : Build} {state_of : List ℕ → State} {next : ℕ → ℕ → ℕ
       last id k at e unit is_unit = grind (arith, common_steps)
 
 in_false : {Q : Type 0} (P : Type 0) (b : Bool) → b ≡ false → Q → MatchBool b P Q
-in_false P true e q = absurd cc
-in_false P false e q = q
+in_false P b e q = grind (arith, common_steps, cases_Bool)
 
 state_at : (state_of : List ℕ → State) (keys : List (List ℕ)) (id : ℕ) {key : List ℕ} → slice_get keys id ≡ Some key
     → slice_get (map state_of keys) id ≡ Some (state_of key)

@@ -11,9 +11,7 @@ abbrev next_by : ℕ → Bool → Bool → ℕ
 next_by to byte start = if byte && start then to else 0
 
 next_within : (to : ℕ) (byte start : Bool) → to < 4 → next_by to byte start < 4
-next_within to true true h = h
-next_within to true false h = omega arith
-next_within to false start h = omega arith
+next_within to byte start h = grind (arith, common_steps)
 
 next_dead : (to : ℕ) (byte : Bool) → next_by to byte false ≡ 0
 next_dead to true = refl
@@ -71,17 +69,7 @@ module _ (n : ℕ) (pattern_starts : Option ℕ) (to : ℕ) (told : List ℕ) (w
     }
 
     pub four_rows_sound : IsSound (four_rows n pattern_starts to told)
-    four_rows_sound = record {
-      is_table = is_table;
-      eoi_goes_on = λ row h e. (let zero_is_one : 0 ≡ 1 = e in omega arith);
-      starts_plain = λ mode start. starts_plain told mode;
-      patterns = λ row ks k h e c. patterns_below n told (row == 1) (row == 3) ks k all e c;
-      needles = λ row h e. absurd (cc);
-      some_needle = λ row h e. absurd (cc);
-      few_needles = λ row h e. absurd (cc);
-      no_needle = λ row h e. refl;
-      special = λ row h. refl;
-    }
+    four_rows_sound = grind (arith, common_steps, is_table, starts_plain, patterns_below)
 
 -- ---- closed pairs of two tables: their starts, where a byte leads from there, and dead
 
@@ -105,10 +93,7 @@ from_start to other false = dead_there to other
 
 from_others : (to other : ℕ) (byte start other_start : Bool) → start ≡ false → other_start ≡ false
     → Contains (three_pairs to other) (pair (next_by to byte start) (next_by other byte other_start))
-from_others to other true false false e f = dead_there to other
-from_others to other false start other_start e f = dead_there to other
-from_others to other true true other_start e f = absurd (cc)
-from_others to other true start true e f = absurd (cc)
+from_others to other byte start other_start e f = grind (arith, common_steps, dead_there)
 
 module _ (n to other : ℕ) (told others : List ℕ) (labels : told_by told to ≡ told_by others other)
     (on : (to == 2) ≡ false) (other_on : (other == 2) ≡ false) where

@@ -122,18 +122,8 @@ module _ {t u : Table} {links : List Link} {pairs : List RowPair} (walk : IsWalk
         distance = l.distance + 1;
         end = length pairs;
         level = level;
-        levels = λ i from unit there.
-            (let i_below = slice_get_within links i (Link.Next from unit) there in
-            let from_below = (walk.follows i (Link.Next from unit) there).0 in
-            let e = below_is (length pairs) top l.level i (omega arith) in
-            let f = below_is (length pairs) top l.level from (omega arith) in
-            let rises = l.levels i from unit there in
-            omega arith);
-        near = λ i h.
-            (let e = below_is (length pairs) top l.level i h in
-            ⊎_elim (λ (k : i < l.end). let n = l.near i k in omega arith)
-            (λ (k : l.end ≤ i). let f = l.far i k in omega arith)
-            (cases_lt i l.end));
+        levels = λ i from unit there. grind (arith, common_steps, slice_get_within, below_is);
+        near = λ i h. grind (arith, common_steps, below_is);
         far = λ i h. past_is (length pairs) top l.level i h;
         within = omega arith;
         before = omega arith;

@@ -1,8 +1,8 @@
 -- Places of which pairs take care.
 use Rattle.rx_spec.proofs.Prelude.{common_steps, ℕ, suc, ◌≡◌, ◌+◌, ◌<◌, ◌≤◌, max, Some, None, Option, List, [], ◌∷◌}
-use Rattle.rx_spec.proofs.Prelude.{◌++◌, refl, ap, sym, ◌∙◌, subst, arith, drop, length, ⊎_elim, same_Some}
-use Rattle.rx_spec.proofs.Prelude.{drop_of_length-le, Contains-append_left, Contains-push, Contains-push_cases}
-use Rattle.rx_spec.proofs.Prelude.{Contains, IfSome, slice_get, Anchored, Table}
+use Rattle.rx_spec.proofs.Prelude.{◌++◌, refl, ap, sym, ◌∙◌, subst, arith, drop, length, same_Some, drop_of_length-le}
+use Rattle.rx_spec.proofs.Prelude.{Contains-append_left, Contains-push, Contains-push_cases, Contains, IfSome}
+use Rattle.rx_spec.proofs.Prelude.{slice_get, Anchored, Table}
 use Rattle.rx_base.specs.StartConfig.{StartConfig}
 use Rattle.rx_equal.specs.declared.evidence.Link.{Link}
 use Rattle.rx_equal.specs.Partings.{answer_at, IsModeOf}
@@ -110,10 +110,4 @@ module _ {t u : Table} {links : List Link} {i : ℕ} {pairs : List RowPair} (nam
 
     pub named_link : {more : List RowPair} → HaveEqualLabels t u p → more ≡ pairs ++ p ∷ []
         → AreNamed t u links (i + 1) more
-    named_link equal is = record {
-      left = ap (λ ps. pairs_from t u ps (drop (i + 1) links)) is ∙ left_more;
-      labels = λ q c.
-          ⊎_elim (λ (old : Contains pairs q). named.labels q old)
-          (λ (same : p ≡ q). subst (HaveEqualLabels t u) same equal)
-          (Contains-push_cases pairs p q (subst (λ ps. Contains ps q) is c));
-    }
+    named_link equal is = grind (arith, common_steps, left_more, Contains-push_cases)

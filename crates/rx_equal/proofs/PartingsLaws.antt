@@ -1,8 +1,8 @@
 -- Laws of partings: a table itself, two tables turned, and what equal tables refuse.
-use Rattle.rx_spec.proofs.Prelude.{common_steps, ℕ, ◌≡◌, Bool, true, false, if◌then◌else◌, Option, Some, None, Result}
-use Rattle.rx_spec.proofs.Prelude.{Ok, Err, List, [], refl, ap, ap₂, sym, arith, ltb-true, ◌<◌, is_some, nat_lt}
-use Rattle.rx_spec.proofs.Prelude.{contains, Anchored, Machine, StartError, has_anchored, has_unanchored, mode_error}
-use Rattle.rx_spec.proofs.Prelude.{start_error, start_row, supports, Table, label_after}
+use Rattle.rx_spec.proofs.Prelude.{common_steps, ℕ, ◌≡◌, Bool, if◌then◌else◌, Option, Some, None, Result, Ok, Err, List}
+use Rattle.rx_spec.proofs.Prelude.{[], refl, ap, ap₂, sym, arith, ltb-true, ◌<◌, is_some, nat_lt, contains, Anchored}
+use Rattle.rx_spec.proofs.Prelude.{Machine, StartError, has_anchored, has_unanchored, mode_error, start_error}
+use Rattle.rx_spec.proofs.Prelude.{start_row, supports, Table, label_after}
 use Rattle.rx_spec.specs.declared.StartKind.{StartKind}
 use Rattle.lemmas_walks.proofs.Firsts.{by_test}
 use Rattle.lemmas_walks.proofs.Words.{IsWord-nil}
@@ -25,8 +25,7 @@ alike_turned : (t u : Table) (word : List ℕ) (answer other : Result ℕ StartE
     → AreAlikeBy u t word other answer
 alike_turned t u word (Ok x) (Ok y) e = sym e
 alike_turned t u word (Err error) (Err other) e = sym e
-alike_turned t u word (Ok x) (Err other) e = e
-alike_turned t u word (Err error) (Ok y) e = e
+alike_turned t u word _ _ e = e
 
 pub nothing_parts_turned : NothingPartsTurned
 nothing_parts_turned t u nothing place is word w = grind (arith, common_steps, alike_turned)
@@ -47,12 +46,7 @@ module _ (t u : Table) (word : List ℕ) where
   quits_alike : (x y byte : ℕ) (mode : Anchored) (b d v w : Bool)
       → AreAlikeBy t u word (row_or (byte_part b byte (mode_part v mode)) x)
       (row_or (byte_part d byte (mode_part w mode)) y) → b ≡ d
-  quits_alike x y byte mode true true v w alike = refl
-  quits_alike x y byte mode false false v w alike = refl
-  quits_alike x y byte mode true false v true alike = absurd alike
-  quits_alike x y byte mode true false v false alike = absurd (cc)
-  quits_alike x y byte mode false true true w alike = absurd alike
-  quits_alike x y byte mode false true false w alike = absurd (cc)
+  quits_alike x y byte mode b d v w alike = grind (arith, common_steps)
 
 kinds_alike : (k j : StartKind) → has_unanchored k ≡ has_unanchored j → has_anchored k ≡ has_anchored j → k ≡ j
 kinds_alike StartKind.Both StartKind.Both e f = refl

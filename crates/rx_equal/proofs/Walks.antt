@@ -39,9 +39,7 @@ pub named_more : (t u : Table) (links : List Link) (earlier pairs : List RowPair
     → pairs_from t u earlier links ≡ Some pairs → link_pair t u pairs link ≡ Some p
     → pairs_from t u earlier (links ++ link ∷ []) ≡ Some (pairs ++ p ∷ [])
 named_more t u [] earlier pairs link p e is = grind (arith, common_steps)
-named_more t u (first ∷ links) earlier pairs link p e is =
-    by_first t u first links earlier pairs link p e is (link_pair t u earlier first) refl
-    (λ q f. named_more t u links (earlier ++ q ∷ []) pairs link p f is)
+named_more t u (first ∷ links) earlier pairs link p e is = grind (arith, common_steps, by_first, named_more t u links)
 
 none_within : {X : Type 0} (xs : List X) (i : ℕ) → i < length xs → slice_get xs i ≡ None → ⊥
 none_within [] i h e = absurd (omega arith)

@@ -37,12 +37,7 @@ pub run_both : (t u : Table) (p : RowPair) (word : List ℕ)
     → run (next_pair t u) p word
     ≡ record { row = run t.machine.next p.row word; other = run u.machine.next p.other word }
 run_both t u p [] = grind (arith, common_steps, run-nil)
-run_both t u p (unit ∷ word) =
-    run-cons (next_pair t u) p unit word ∙ run_both t u (next_pair t u p unit) word
-    ∙ ap (λ x. record { row = x; other = run u.machine.next (u.machine.next p.other unit) word })
-    (sym (run-cons t.machine.next p.row unit word))
-    ∙ ap (λ y. record { row = run t.machine.next p.row (unit ∷ word); other = y })
-    (sym (run-cons u.machine.next p.other unit word))
+run_both t u p (unit ∷ word) = grind (arith, common_steps, run-cons, run_both t u (next_pair t u p unit) word)
 
 -- labels where a word has led from both rows
 pub labels_led : (t u : Table) (start end : RowPair) (word : List ℕ) → run (next_pair t u) start word ≡ end

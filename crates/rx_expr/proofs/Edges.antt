@@ -1,7 +1,6 @@
 -- Whether an expression reads nothing, and whether it begins with the edge, by its form.
-use Rattle.rx_spec.proofs.Prelude.{◌≡◌, ◌==◌, ℕ, zero, suc, ◌<◌, ◌≤◌, Bool, true, false, ◌&&◌, ◌||◌, Option, Some, None}
-use Rattle.rx_spec.proofs.Prelude.{refl, ap, ◌∙◌, arith, ap₂, Expression, mirror, reads_nothing, begins_with_edge}
-use Rattle.rx_spec.proofs.Prelude.{read_as}
+use Rattle.rx_spec.proofs.Prelude.{◌≡◌, ◌==◌, ℕ, zero, suc, ◌<◌, ◌≤◌, Bool, false, ◌&&◌, ◌||◌, Option, Some, None, refl}
+use Rattle.rx_spec.proofs.Prelude.{ap, ◌∙◌, arith, ap₂, Expression, mirror, reads_nothing, begins_with_edge, read_as}
 use Rattle.std.proofs.Math.Bool.{and_comm}
 use Rattle.rx_spec.specs.declared.Look.{Look}
 use Rattle.rx_spec.specs.Edge.{is_edge}
@@ -9,18 +8,6 @@ use Rattle.rx_spec.specs.declared.Direction.{Direction}
 use Rattle.rx_expr.specs.Compiles.{has_no_round}
 
 -- ---- reading nothing, by an expression's form
-
-pub nothing-empty : {e : Expression} → Expression.Empty ≡ e → true ≡ reads_nothing e
-unfolding reads_nothing
-nothing-empty is = ap reads_nothing is
-
-pub nothing-class : {e : Expression} {set : ℕ} → Expression.Class set ≡ e → false ≡ reads_nothing e
-unfolding reads_nothing
-nothing-class is = ap reads_nothing is
-
-pub nothing-look : {e : Expression} {look : Look} → Expression.Look look ≡ e → true ≡ reads_nothing e
-unfolding reads_nothing
-nothing-look is = ap reads_nothing is
 
 pub nothing-concat : {e a b : Expression} → Expression.Concat a b ≡ e
     → (reads_nothing a && reads_nothing b) ≡ reads_nothing e
@@ -120,23 +107,3 @@ pub begins-repeat_some : {e body : Expression} {least : ℕ} {most : Option ℕ}
     → Expression.Repeat least most greedy body ≡ e → 0 < least → begins direction body ≡ begins direction e
 begins-repeat_some {body = body} {least = least} {most = most} {greedy = greedy} direction is some =
     begins-round direction least most greedy body some ∙ ap (begins direction) is
-
--- ---- a test in two steps: the second decides where the first leaves it open
-
-pub and_then : {first second x y whole : Bool} → (x && y) ≡ whole → first ≡ x → first ≡ true → second ≡ y
-    → second ≡ whole
-and_then {x = true} is same holds e = e ∙ is
-and_then {x = false} is same holds e = absurd (cc)
-
-pub and_else : {first x whole : Bool} (y : Bool) → (x && y) ≡ whole → first ≡ x → first ≡ false → first ≡ whole
-and_else {x = true} y is same fails = absurd (cc)
-and_else {x = false} y is same fails = fails ∙ is
-
-pub or_then : {first x whole : Bool} (y : Bool) → (x || y) ≡ whole → first ≡ x → first ≡ true → first ≡ whole
-or_then {x = true} y is same holds = holds ∙ is
-or_then {x = false} y is same holds = absurd (cc)
-
-pub or_else : {first second x y whole : Bool} → (x || y) ≡ whole → first ≡ x → first ≡ false → second ≡ y
-    → second ≡ whole
-or_else {x = true} is same fails e = absurd (cc)
-or_else {x = false} is same fails e = e ∙ is

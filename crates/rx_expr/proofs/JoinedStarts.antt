@@ -1,7 +1,7 @@
 -- The Splits that join the starts of all patterns, the last pair first.
 use Rattle.rx_spec.proofs.Prelude.{common_steps, ◌≡◌, ℕ, zero, suc, ◌+◌, ◌-◌, ◌<◌, ◌≤◌, List, [], ◌∷◌, ◌++◌, length}
 use Rattle.rx_spec.proofs.Prelude.{map, drop, get_or, refl, sym, ◌∙◌, ap, subst, arith, append_assoc, append-nil}
-use Rattle.rx_spec.proofs.Prelude.{length-append, length-drop, Result, Ok, Err, IfOk, ap₂, map-append, start_of_all}
+use Rattle.rx_spec.proofs.Prelude.{length-append, length-drop, Result, Ok, Err, IfOk, map-append, start_of_all}
 use Rattle.std.specs.declared.alloc.AllocError.{AllocError}
 use Rattle.rx_spec.specs.Rows as spec
 use Rattle.rx_expr.specs.Compiles.{AddsRow, AddsJoined, joined_count}
@@ -60,13 +60,7 @@ joined_before : {starts : List ℕ} {old mid new : List Row} {start joined : ℕ
     → AddsJoined starts old mid joined → new ≡ mid ++ (Row.Split start joined ∷ [])
     → AddsJoined (start ∷ starts) old new (length mid)
 joined_before {starts} {old} {mid} {start = start} {joined = joined} some added pushed =
-    let others = start_of_all (length old) starts in
-    let whole = sym (split_before (length old) start starts some) in
-    let laid =
-    ap (map row_of) pushed ∙ map-append row_of mid (Row.Split start joined ∷ [])
-    ∙ ap₂ (λ xs n. xs ++ (spec.Split start n ∷ [])) added.rows added.entered
-    ∙ append_assoc (map row_of old) others.rows (spec.Split start others.entry ∷ []) in
-    grind (arith, common_steps)
+    grind (arith, common_steps, split_before, map-append, append_assoc)
 
 pub joined_more : (starts : List ℕ) (k : ℕ) {old mid new : List Row} {start joined : ℕ} → 1 ≤ k → k < length starts
     → start ≡ get_or starts (length starts - 1 - k) start

@@ -22,11 +22,11 @@ halves xs n h two = (simp length-take (omega arith), simp length-drop (omega ari
 literal_enough : (n m : ℕ) (bytes : List ℕ) → length bytes ≤ n → length bytes ≤ m
     → literal_within n bytes ≡ literal_within m bytes
 unfolding literal_within
+literal_enough zero (suc m) (byte ∷ bytes) h k = absurd (omega arith)
+literal_enough (suc n) zero (byte ∷ bytes) h k = absurd (omega arith)
 literal_enough zero zero bytes h k = refl
 literal_enough zero (suc m) [] h k = refl
-literal_enough zero (suc m) (byte ∷ bytes) h k = absurd (omega arith)
 literal_enough (suc n) zero [] h k = refl
-literal_enough (suc n) zero (byte ∷ bytes) h k = absurd (omega arith)
 literal_enough (suc n) (suc m) [] h k = refl
 literal_enough (suc n) (suc m) (byte ∷ []) h k = refl
 literal_enough (suc n) (suc m) (byte ∷ (next ∷ bytes)) h k =

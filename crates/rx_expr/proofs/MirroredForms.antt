@@ -1,6 +1,6 @@
 -- What is kept of an expression is kept of its mirror.
-use Rattle.rx_spec.proofs.Prelude.{◌≡◌, ℕ, ◌-◌, ◌^◌, min, refl, Some, None, arith, ap, ◌∙◌, sym, subst, Expression}
-use Rattle.rx_spec.proofs.Prelude.{mirror, depth, min_len, IsLoopSafe, rows_count}
+use Rattle.rx_spec.proofs.Prelude.{common_steps, ◌≡◌, ℕ, ◌-◌, ◌^◌, min, refl, Some, None, arith, Expression, mirror}
+use Rattle.rx_spec.proofs.Prelude.{depth, min_len, IsLoopSafe, rows_count}
 use Rattle.lemmas_walks.proofs.Mirrors.{min_len-mirror, IsLoopSafe-mirror}
 use Rattle.rx_expr.specs.Expr.{form_of, IsKept}
 use Rattle.rx_expr.specs.declared.expr.Form.{Form}
@@ -16,10 +16,7 @@ depth-mirror _ = refl
 pub rows_count-mirror : (e : Expression) → rows_count (mirror e) ≡ rows_count e
 unfolding rows_count mirror
 rows_count-mirror (Expression.Concat a b) = let x = rows_count-mirror a in let y = rows_count-mirror b in omega arith
-rows_count-mirror (Expression.Alternate a b) =
-    let x = rows_count-mirror a in
-    let y = rows_count-mirror b in
-    omega arith
+rows_count-mirror (Expression.Alternate a b) = omega (arith, rows_count-mirror a, rows_count-mirror b)
 rows_count-mirror (Expression.Repeat least None greedy body) = let x = rows_count-mirror body in rw x refl
 rows_count-mirror (Expression.Repeat least (Some most) greedy body) = let x = rows_count-mirror body in rw x refl
 rows_count-mirror _ = refl
@@ -34,10 +31,4 @@ pub record IsKeptOf (f : Form) (kept_len kept_rows kept_depth : ℕ) : Type 0 wh
 pub IsKeptOf-mirror : {i : Inner} {f : Form} → IsKept i → form_of f ≡ mirror (form_of i.form)
     → IsKeptOf f i.min_len i.rows i.depth
 IsKeptOf-mirror {i} kept is =
-    let e = form_of i.form in
-    record {
-      least = kept.min_len ∙ sym (ap (λ n. min n (2 ^ 64 - 1)) (ap min_len is ∙ min_len-mirror e));
-      rows = kept.rows ∙ sym (ap (λ n. min n (2 ^ 31)) (ap rows_count is ∙ rows_count-mirror e));
-      depth_is = kept.depth ∙ sym (ap depth is ∙ depth-mirror e);
-      safe = subst IsLoopSafe (sym is) (IsLoopSafe-mirror e kept.safe);
-    }
+    grind (arith, common_steps, min_len-mirror, rows_count-mirror, depth-mirror, IsLoopSafe-mirror)

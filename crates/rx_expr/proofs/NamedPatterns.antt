@@ -1,9 +1,8 @@
 -- Which patterns the Match rows of an NFA name: those of its list, and no more than have ids.
-use Rattle.rx_spec.proofs.Prelude.{common_steps, ◌≡◌, ℕ, zero, suc, ◌+◌, ◌-◌, ◌<◌, ◌≤◌, Bool, true, false, Option, Some}
-use Rattle.rx_spec.proofs.Prelude.{None, List, [], ◌∷◌, ◌++◌, length, map, subst, arith, length-map, list_all, id_count}
-use Rattle.rx_spec.proofs.Prelude.{begins_with_edge, Expression, lead_in, nfa_of, patterns_from, read_as, start_of_all}
-use Rattle.rx_spec.proofs.Prelude.{Row, Maker, chained, choice, compile, copies, either, loop, optional, repeated}
-use Rattle.rx_spec.proofs.Prelude.{row_at}
+use Rattle.rx_spec.proofs.Prelude.{rules, common_steps, ◌≡◌, ℕ, zero, suc, ◌+◌, ◌-◌, ◌<◌, ◌≤◌, Bool, true, false}
+use Rattle.rx_spec.proofs.Prelude.{Option, Some, None, List, [], ◌∷◌, length, map, subst, arith, length-map, id_count}
+use Rattle.rx_spec.proofs.Prelude.{Expression, lead_in, nfa_of, patterns_from, read_as, start_of_all, Row, Maker}
+use Rattle.rx_spec.proofs.Prelude.{chained, choice, compile, copies, either, loop, optional, repeated, row_at}
 use Rattle.std.specs.List.{AllByRecursion as Every}
 use Rattle.rx_spec.specs.declared.Direction.{Direction}
 use Rattle.lemmas_walks.proofs.Every.{every-append}
@@ -49,24 +48,15 @@ optional_named : (count : ℕ) (greedy : Bool) (body : Maker) → AreNamed count
 unfolding optional
 optional_named count greedy body h zero base next = tt
 optional_named count greedy body h (suc n) base next =
-    let inner = optional greedy n body base next in
-    let place = base + length inner.rows in
-    let round = body place inner.entry in
-    every-append (Names count) (inner.rows ++ round.rows) (choice greedy round.entry next ∷ [])
-    (every-append (Names count) inner.rows round.rows (optional_named count greedy body h n base next)
-    (h place inner.entry)) (choice_named count greedy round.entry next, tt)
+    search (rules, every-append, optional_named count greedy body h n, choice_named)
 
 loop_named : (count : ℕ) (greedy : Bool) (body : Maker) → AreNamed count body → AreNamed count (loop greedy body)
 loop_named count greedy body h base next = grind (arith, common_steps)
 
 repeated_named : (count least : ℕ) (most : Option ℕ) (greedy : Bool) (body : Maker) → AreNamed count body
     → AreNamed count (repeated least most greedy body)
-repeated_named count least None greedy body h =
-    chained_named count (copies least body) (loop greedy body) (copies_named count body h least)
-    (loop_named count greedy body h)
-repeated_named count least (Some most) greedy body h =
-    chained_named count (copies least body) (optional greedy (most - least) body) (copies_named count body h least)
-    (optional_named count greedy body h (most - least))
+repeated_named count least None greedy body h = search (rules, chained_named, copies_named, loop_named)
+repeated_named count least (Some most) greedy body h = search (rules, chained_named, copies_named, optional_named)
 
 compile_named : (count : ℕ) (e : Expression) → AreNamed count (compile e)
 unfolding compile
@@ -97,9 +87,7 @@ unfolding start_of_all
 start_named count base [] = (tt, tt)
 start_named count base (entry ∷ []) = tt
 start_named count base (entry ∷ (next ∷ entries)) =
-    let others = start_of_all base (next ∷ entries) in
-    every-append (Names count) others.rows (Row.Split entry others.entry ∷ [])
-    (start_named count base (next ∷ entries)) (tt, tt)
+    search (rules, every-append, start_named count base (next ∷ entries))
 
 lead_in_named : (count : ℕ) (at_edge : Bool) (base anchored : ℕ)
     → Every (Names count) (lead_in at_edge base anchored).rows
@@ -110,16 +98,8 @@ nfa_named : (direction : Direction) (line_terminator : ℕ) (is_utf8 : Bool) (es
     → Every (Names (length es)) (nfa_of direction line_terminator is_utf8 es).rows
 unfolding nfa_of
 nfa_named direction line_terminator is_utf8 es =
-    let count = length es in
-    let read = map (read_as direction) es in
-    let patterns = patterns_from 0 0 read in
-    let anchored = start_of_all (length patterns.rows) patterns.entries in
-    let base = length patterns.rows + length anchored.rows in
-    let edge = list_all (begins_with_edge direction) read in
-    let few : 0 + length read ≤ count = omega (arith, length-map es (read_as direction)) in
-    every-append (Names count) (patterns.rows ++ anchored.rows) (lead_in edge base anchored.entry).rows
-    (every-append (Names count) patterns.rows anchored.rows (patterns_named count read 0 0 few)
-    (start_named count (length patterns.rows) patterns.entries)) (lead_in_named count edge base anchored.entry)
+    let few : 0 + length (map (read_as direction) es) ≤ length es = omega (arith, length-map es (read_as direction)) in
+    search (rules, every-append, patterns_named, start_named, lead_in_named)
 
 -- it has a start for each pattern
 length-start_patterns : (direction : Direction) (line_terminator : ℕ) (is_utf8 : Bool) (es : List Expression)
@@ -132,16 +112,8 @@ pub nfa_names_patterns : (direction : Direction) (line_terminator : ℕ) (is_utf
     → NamesPatterns (length (nfa_of direction line_terminator is_utf8 es).start_patterns)
     (nfa_of direction line_terminator is_utf8 es).rows
 nfa_names_patterns direction line_terminator is_utf8 es few =
-    let nfa = nfa_of direction line_terminator is_utf8 es in
-    let counted = length-start_patterns direction line_terminator is_utf8 es in
-    record {
-      few = omega arith;
-      named =
-          λ q pattern e.
-          let below : pattern < length es =
-          named_at (length es) nfa.rows (nfa_named direction line_terminator is_utf8 es) q pattern e in
-          omega arith;
-    }
+    rw (length-start_patterns direction line_terminator is_utf8 es)
+    record { few = few; named = named_at (length es) _ (nfa_named direction line_terminator is_utf8 es) }
 
 -- the NFAs of one row
 pub match_names_one : NamesPatterns 1 (Row.Match 0 ∷ [])

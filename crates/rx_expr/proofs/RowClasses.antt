@@ -45,10 +45,4 @@ word_look_parts look t b below is = word_parts b below ∙ ap (λ read. facts_pa
 pub reads_words : (look : Look) → (look ≡ Look.Start → ⊥) → (look ≡ Look.End → ⊥) → (look ≡ Look.StartLF → ⊥)
     → (look ≡ Look.EndLF → ⊥) → (look ≡ Look.StartCRLF → ⊥) → (look ≡ Look.EndCRLF → ⊥)
     → facts_read look ≡ facts_read Look.WordAscii
-reads_words Look.Start start end line_start line_end crlf_start crlf_end = absurd (start refl)
-reads_words Look.End start end line_start line_end crlf_start crlf_end = absurd (end refl)
-reads_words Look.StartLF start end line_start line_end crlf_start crlf_end = absurd (line_start refl)
-reads_words Look.EndLF start end line_start line_end crlf_start crlf_end = absurd (line_end refl)
-reads_words Look.StartCRLF start end line_start line_end crlf_start crlf_end = absurd (crlf_start refl)
-reads_words Look.EndCRLF start end line_start line_end crlf_start crlf_end = absurd (crlf_end refl)
-reads_words _ start end line_start line_end crlf_start crlf_end = refl
+reads_words look start end line_start line_end crlf_start crlf_end = grind (arith, common_steps)

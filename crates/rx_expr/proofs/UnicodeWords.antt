@@ -1,7 +1,7 @@
 -- Whether the rows have a Unicode word assertion, told by the set of their assertions.
-use Rattle.rx_spec.proofs.Prelude.{arith, ◌≡◌, ℕ, ◌↔◌, Bool, true, false, ◌||◌, ◌==◌, List, [], ◌∷◌, refl, sym, ap, ◌∙◌}
-use Rattle.rx_spec.proofs.Prelude.{⊎_elim, true≢false, eqb-true, eq-eqb, common_steps, IsTrue, list_any, cases_Bool}
-use Rattle.rx_spec.proofs.Prelude.{is_unicode_word, Row}
+use Rattle.rx_spec.proofs.Prelude.{both_ways, inl, inr, or_right, arith, ◌≡◌, ℕ, ◌↔◌, Bool, true, ◌||◌, ◌==◌, List, []}
+use Rattle.rx_spec.proofs.Prelude.{◌∷◌, refl, sym, ap, ◌∙◌, true≢false, eqb-true, eq-eqb, common_steps, IsTrue}
+use Rattle.rx_spec.proofs.Prelude.{list_any, cases_Bool, is_unicode_word, Row}
 use Rattle.rx_spec.specs.Classes.{looks_for_unicode_word}
 use Rattle.rx_spec.specs.declared.Look.{Look}
 use Rattle.rx_base.specs.LookSet.{holds_look, look_number}
@@ -27,15 +27,7 @@ row_told look _ u h = absurd (true≢false (sym h))
 rows_told : (look : Look) (rows : List Row) → is_unicode_word look ≡ true → has_look rows look ≡ true
     → list_any looks_for_unicode_word rows ≡ true
 rows_told look [] u h = h
-rows_told look (row ∷ rows) u h =
-    ⊎_elim
-    (λ (here : asserts look row ≡ true). rw (row_told look row u here) refl)
-    (λ (not_here : asserts look row ≡ false).
-    ⊎_elim
-    (λ (t : looks_for_unicode_word row ≡ true). rw t refl)
-    (λ (f : looks_for_unicode_word row ≡ false). rw f (rows_told look rows u (rw not_here at h)))
-    (cases_Bool (looks_for_unicode_word row)))
-    (cases_Bool (asserts look row))
+rows_told look (row ∷ rows) u h = grind (arith, common_steps, row_told, rows_told look rows u)
 
 -- the assertion that a row has
 row_has : (row : Row) → looks_for_unicode_word row ≡ true
@@ -47,18 +39,10 @@ rows_have : (rows : List Row) → list_any looks_for_unicode_word rows ≡ true
     → (look : Look) × (is_unicode_word look ≡ true) × (has_look rows look ≡ true)
 rows_have [] h = absurd (true≢false (sym h))
 rows_have (row ∷ rows) h =
-    ⊎_elim
-    (λ (t : looks_for_unicode_word row ≡ true). (let a = row_has row t in (a.0, a.1, rw a.2 refl)))
-    (λ (f : looks_for_unicode_word row ≡ false).
-    let a = rows_have rows (rw f at h) in (
-      a.0,
-      a.1,
-      ⊎_elim
-          (λ (t : asserts a.0 row ≡ true). rw t refl)
-          (λ (n : asserts a.0 row ≡ false). rw n a.2)
-          (cases_Bool (asserts a.0 row)),
-    ))
-    (cases_Bool (looks_for_unicode_word row))
+    elim (cases_Bool (looks_for_unicode_word row)) [
+      | inl t ↦ let a = row_has row t in (a.0, a.1, rw a.2 refl)
+      | inr f ↦ let a = rows_have rows (rw f at h) in (a.0, a.1, or_right (asserts a.0 row) (has_look rows a.0) a.2)
+    ]
 
 -- what the set of assertions tells
 pub unicode_told : (rows : List Row) (set : ℕ) (told : Bool)
@@ -66,14 +50,6 @@ pub unicode_told : (rows : List Row) (set : ℕ) (told : Bool)
     → (IsTrue told ↔ ((look : Look) × (is_unicode_word look ≡ true) × (holds_look set look ≡ true)))
     → told ≡ list_any looks_for_unicode_word rows
 unicode_told rows set told holds iff =
-    ⊎_elim
-    (λ (t : list_any looks_for_unicode_word rows ≡ true).
-    let a = rows_have rows t in
-    iff.1 (a.0, a.1, holds a.0 ∙ a.2) ∙ sym t)
-    (λ (f : list_any looks_for_unicode_word rows ≡ false).
-    ⊎_elim
-    (λ (yes_told : told ≡ true). let a = iff.0 yes_told in
-    absurd (true≢false (sym (rows_told a.0 rows a.1 (sym (holds a.0) ∙ a.2)) ∙ f)))
-    (λ (not_told : told ≡ false). not_told ∙ sym f)
-    (cases_Bool told))
-    (cases_Bool (list_any looks_for_unicode_word rows))
+    both_ways told (list_any looks_for_unicode_word rows)
+    (λ t. let a = iff.0 t in rows_told a.0 rows a.1 (sym (holds a.0) ∙ a.2))
+    (λ t. let a = rows_have rows t in iff.1 (a.0, a.1, holds a.0 ∙ a.2))

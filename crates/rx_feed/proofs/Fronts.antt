@@ -1,8 +1,7 @@
 -- Fronts of texts that are written one after another.
-use Rattle.rx_spec.proofs.Prelude.{common_steps, ℕ, ◌+◌, List, ◌++◌, length, take, Option, Result, Ok, Err, sym, subst}
-use Rattle.rx_spec.proofs.Prelude.{arith, length-append, Appends}
+use Rattle.rx_spec.proofs.Prelude.{ℕ, ◌+◌, List, ◌++◌, length, take, Option, Result, Ok, Err, sym, subst, arith}
+use Rattle.rx_spec.proofs.Prelude.{length-append, Appends}
 use Rattle.std.proofs.Math.Seq.{take-append-add}
-use Rattle.std.proofs.lemmas.List.{take-append-le}
 use Rattle.rx_transfer.specs.Outside.{AppendsFront}
 use Rattle.rx_transfer.proofs.Transfers.{appends_more}
 use Rattle.rx_feed.specs.Outside.{Writes}
@@ -18,10 +17,6 @@ front_after a b c xs ys p front = record {
       subst (Appends a c) (sym (take-append-add xs ys front.count))
       (appends_more a b c xs (take front.count ys) p front.written);
 }
-
--- A front of a text is one of what is longer.
-pub front_more : (a b : Option (List ℕ)) (xs ys : List ℕ) → AppendsFront a b xs → AppendsFront a b (xs ++ ys)
-front_more a b xs ys front = grind (arith, common_steps, length-append, take-append-le)
 
 -- a text, and then another or a front of it
 pub writes_after : (a b c : Option (List ℕ)) (xs ys : List ℕ) (status : ℕ) (result : Result ℕ Fault)

@@ -16,7 +16,8 @@ use Rattle.rx_feed.specs.Lines.{IsMatch, event_line, lines}
 use Rattle.rx_feed.specs.Outside.{Written}
 use Rattle.rx_feed.specs.Pieces.{IsBroken, IsRead, MeetsQuit}
 use Rattle.rx_feed.proofs.EventLines.{lines-append}
-use Rattle.rx_feed.proofs.Fronts.{front_after, front_more}
+use Rattle.rx_feed.proofs.Fronts.{front_after}
+use Rattle.std.proofs.lemmas.List.{take-append-le}
 
 no_bytes : AreBytes []
 no_bytes = All-nil (λ b. b < 256)
@@ -95,10 +96,9 @@ module _ {t : Table} {ids : List ℕ} {old here new : Place} {piece : List ℕ} 
       ∙ feeds.tells_now [] no_bytes
       ∙ ap (λ (xs : List ℕ). feeds.told ++ now t ids here xs) (append-nil (drop from piece))
       ∙ ap (λ (es : List StreamEvent). feeds.told ++ es) (is.on_time none) ∙ append-nil feeds.told in
-      let used : fed.used ≡ length piece = is.over none in
       record {
         still_open = is.stays_open;
-        taken = omega (arith, is.taken, feeds.taken, used);
+        taken = omega (arith, is.taken, feeds.taken, is.over none);
         tells = λ more are.
             feeds.tells more are
             ∙ ap (λ (es : List StreamEvent). feeds.told ++ es) (silent_call is none more are)
@@ -116,7 +116,7 @@ module _ {t : Table} {ids : List ℕ} {old here new : Place} {piece : List ℕ} 
       → MeetsQuit t ids old piece (record { before = before; after = after }) byte offset
   feeds_quit {byte} {offset} some =
       let later : List StreamEvent = now t ids new (drop fed.used piece ++ []) in
-      let here_tells : events_now ≡ StreamEvent.Quit byte offset ∷ later
+      let here_tells : (now_at Stage.Open t ids here (drop from piece ++ [])) ≡ StreamEvent.Quit byte offset ∷ later
       = sym (ap (λ (s : Stage). now_at s t ids here (drop from piece ++ [])) (open_stage here.stage feeds.still_open))
       ∙ told_now is some [] no_bytes in
       record {
@@ -128,9 +128,6 @@ module _ {t : Table} {ids : List ℕ} {old here new : Place} {piece : List ℕ} 
             (quit_is_last (told_over t ids here (drop from piece ++ [])) byte offset later here_tells);
         lines = feeds.lines;
       }
-    where
-      events_now : List StreamEvent
-      events_now = now_at Stage.Open t ids here (drop from piece ++ [])
 
   -- the sink fails
   pub feeds_broken : {event : StreamEvent} {later : Option (List ℕ)} → fed.event ≡ Some event → IsMatch event
@@ -146,10 +143,6 @@ module _ {t : Table} {ids : List ℕ} {old here new : Place} {piece : List ℕ} 
   }
 
 -- ---- one piece after another
-
-pub read_none : (t : Table) (ids : List ℕ) (place : Place) (written : Option (List ℕ)) → is_open place.stage ≡ true
-    → now t ids place [] ≡ [] → IsRead t ids place place [] (record { before = written; after = written })
-read_none t ids place written still none = grind (arith, common_steps, appends_none)
 
 -- a piece after those before it
 module _ {t : Table} {ids : List ℕ} {old here : Place} {xs : List ℕ} {before between : Option (List ℕ)}
@@ -224,8 +217,4 @@ module _ {t : Table} {ids : List ℕ} {old here new : Place} {before after : Opt
       ∙ lines-append finishes.told (event ∷ rest))) in
       subst (AppendsFront before later) all
       (front_after before after later (lines finishes.told) (event_line event ++ (lines rest ++ last)) finishes.lines
-      (front_more after later (event_line event) (lines rest ++ last) front))
-
-  -- nothing is left
-  pub finishes_over : IsFinished t ids here new None → Appends before after (lines (remaining t ids old []))
-  finishes_over is = grind (arith, common_steps, append-nil)
+      (grind (arith, common_steps, length-append, take-append-le)))

@@ -15,7 +15,7 @@ use Rattle.rx_feed.specs.Replies.{IsToldLast, StreamReplies, most_data, most_of_
 use Rattle.rx_feed.specs.Run.{StreamBreaks, StreamCut, StreamEnds, TakesText}
 use Rattle.rx_feed.specs.declared.fault.Fault.{Fault}
 use Rattle.rx_feed.proofs.EventLines.{lines-append, match_lines-all, match_lines-quit}
-use Rattle.rx_feed.proofs.Pieces.{read_more, read_none}
+use Rattle.rx_feed.proofs.Pieces.{read_more}
 use Rattle.rx_transfer.specs.Outside.{Ends}
 use Rattle.rx_transfer.proofs.Transfers.{appends_more, appends_none, consumes_kept, consumes_more, consumes_none}
 use Rattle.rx_transfer.proofs.Transfers.{keeps_same}
@@ -61,7 +61,7 @@ pub has_read_none : (t : Table) (ids : List ℕ) (place : Place) (left written :
     → is_open place.stage ≡ true → now t ids place [] ≡ []
     → HasRead t ids place place
     (ends_by left left written written)
-has_read_none t ids place left written still none = grind (arith, common_steps, consumes_none, read_none)
+has_read_none t ids place left written still none = grind (arith, common_steps, consumes_none, appends_none)
 
 -- a piece was read: so many bytes, and no more than a piece has
 pub record IsPiece (left left' : Option (List ℕ)) (count : ℕ) (piece : List ℕ) : Type 0 where

@@ -44,13 +44,12 @@ head_again : (order : Order) (form : Form) → Reads head_at (head_text order fo
 unfolding head_at
 head_again order form rest =
     let t3 : List ℕ = field order w32 (form_number form) ++ rest in
-    let t2 : List ℕ = field order w32 pair_version ++ t3 in
-    let t1 : List ℕ = field order w32 endianness_word ++ t2 in
+    let t1 : List ℕ = field order w32 endianness_word ++ (field order w32 pair_version ++ t3) in
     let all : head_text order form ++ rest ≡ label_text pair_label ++ t1 = simp append_assoc refl in
     ap head_at all
     ∙ rw (
       label_again pair_label is_label t1,
-      order_again order t2,
+      order_again order (field order w32 pair_version ++ t3),
       version_again pair_version order (omega arith) t3,
       u32_again order (form_number form) (form_small form) rest,
       form_again form,
@@ -99,11 +98,10 @@ sparse_again : (order : Order) (t : sparse.Stored) → sparse_tested.IsWhole t.l
     → Reads (sparse_at order) (sparse_images.text order t.layout) (record t { order = order })
 unfolding sparse_at
 sparse_again order t whole rest =
-    let bytes : List ℕ = sparse_images.text order t.layout in
     rw (
       sparse_whole_again order t.layout whole rest,
       same_order order,
-      drop_at bytes rest (length bytes) refl,
+      drop_at (sparse_images.text order t.layout) rest (length (sparse_images.text order t.layout)) refl,
     )
     refl
 

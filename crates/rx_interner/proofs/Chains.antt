@@ -1,7 +1,7 @@
 -- How a key is found: from the newest key of its hash over older ones.
+use Rattle.std.proofs.Common.{rules, ◌≡◌, ℕ, ◌<◌, ◌≤◌, ◌⊎◌, inl, inr, Option, None, Some, List, length, take, refl, ap}
+use Rattle.std.proofs.Common.{sym, ◌∙◌, arith, length-take}
 use Rattle.std.proofs.lemmas.Grind.{common_steps}
-use Rattle.std.proofs.Common.{◌≡◌, ℕ, ◌<◌, ◌≤◌, ◌⊎◌, inl, inr, Option, None, Some, List, length, take, refl, ap, sym}
-use Rattle.std.proofs.Common.{◌∙◌, arith, length-take}
 use Rattle.std.proofs.lemmas.List.{length-map}
 use Rattle.std.proofs.lemmas.Option.{slice_get-get_or, slice_get-map, same_Some}
 use Rattle.std.specs.Option.{MatchOption}
@@ -35,11 +35,7 @@ none_there {links} index key none at =
 module _ {links : List Link} {key : List ℕ} where
   pub reached_newest : {newest : ℕ} → newest_of (hash_of key) (keys_of links) ≡ Some newest
       → IsReached links key newest
-  reached_newest {newest} e = record {
-    within = simp length-map at last.within;
-    same_hash = last.has;
-    none_newer = λ newer there. last.none_newer newer key there refl;
-  }
+  reached_newest {newest} e = grind (arith, common_steps, length-map, last.within, last.has, last.none_newer)
     where
       last : HasLast (hash_of key) (keys_of links) newest
       last = rw e at (newest_of_is (hash_of key) (keys_of links))
@@ -56,10 +52,7 @@ module _ {links : List Link} {key : List ℕ} where
 
     -- the key, if it is there, is among the older ones
     is_older : (k : ℕ) → slice_get (keys_of links) k ≡ Some key → k < id
-    is_older k at =
-        let le : k ≤ id = reached.none_newer k at in
-        let other : k ≡ id → ⊥ = λ e. differs (same_Some link.key key (sym (key_at links id there) ∙ rw e at at)) in
-        omega arith
+    is_older k at = grind (arith, common_steps, reached.none_newer, same_Some, link.key, key_at)
 
     among_older : (k : ℕ) → slice_get (keys_of links) k ≡ Some key → slice_get older_keys k ≡ Some key
     unfolding older_keys
@@ -83,11 +76,7 @@ module _ {links : List Link} {key : List ℕ} where
         let lt : older < id = omega (arith, last.within, length-take id (keys_of links)) in
         rw e (
           lt,
-          record {
-            within = omega (arith, reached.within);
-            same_hash = λ kept at. last.has kept (slice_get-take id (keys_of links) older lt ∙ at) ∙ sym has_hash;
-            none_newer = λ newer at. last.none_newer newer key (among_older newer at) has_hash;
-          },
+          search (rules, reached.within, last.has, slice_get-take, has_hash, last.none_newer, among_older),
         )
 
     cases : (older : Option ℕ) → newest_of (hash_of link.key) older_keys ≡ older

@@ -11,7 +11,7 @@ use Rattle.rx_spec.specs.Labels.{pattern_start_modes, table_modes}
 use Rattle.rx_spec.specs.declared.Direction.{Direction}
 use Rattle.rx_spec.specs.declared.Start.{Start}
 use Rattle.lemmas_walks.proofs.Firsts.{Contains-there}
-use Rattle.lemmas_walks.proofs.HalfSearches.{Begins, Done, Refused, Started, begins, started, half_done, half_refused}
+use Rattle.lemmas_walks.proofs.HalfSearches.{Done, Refused, Started, begins, started, half_done, half_refused}
 use Rattle.lemmas_walks.proofs.HalfSearches.{half_walks, going}
 use Rattle.lemmas_walks.proofs.Overlapping.{overlapping_done, overlapping_refused, overlapping_walks}
 use Rattle.lemmas_walks.proofs.ReadUnits.{beside_is_byte, units_word}
@@ -45,11 +45,7 @@ modes_from : (n base k : ℕ) → k < n
     → Contains (map (λ i. Anchored.Pattern i) (range_with_len base n)) (Anchored.Pattern (base + k))
 modes_from zero base k h = absurd (omega arith)
 modes_from (suc n) base zero h = grind (arith, common_steps)
-modes_from (suc n) base (suc k) h =
-    let later = map (λ j. Anchored.Pattern j) (range_with_len (base + 1) n) in
-    let place : base + 1 + k ≡ base + suc k = omega arith in
-    Contains-there (Anchored.Pattern base) later (Anchored.Pattern (base + suc k))
-    (subst (λ i. Contains later (Anchored.Pattern i)) place (modes_from n (base + 1) k (omega arith)))
+modes_from (suc n) base (suc k) h = grind (arith, common_steps, Contains-there, modes_from n (base + 1) k)
 
 pattern_there : (s : Settings) (n k : ℕ) → s.pattern_starts ≡ Some n → k < n
     → Contains (table_modes s) (Anchored.Pattern k)
@@ -109,35 +105,27 @@ module _ {R S : Type 0} {m : Machine R} {n : Machine S} {In : R → Type 0} {On 
         starts_alike q.mode (start_context r (beside direction q)) (started r (beside direction q) q.mode is).supported
 
     pub half_alike : half_search m s direction q ≡ half_search n r direction q
-    half_alike = by_start (begins r direction q)
-      where
-        by_start : Begins r direction q → half_search m s direction q ≡ half_search n r direction q
-        by_start (Done past) =
-            let d = lt-ltb q.end q.start past in
-            half_done m s direction q d ∙ sym (half_done n r direction q d)
-        by_start (Refused order error is) =
-            half_refused m s direction q error (going q order) (refused ∙ is)
-            ∙ sym (half_refused n r direction q error (going q order) is)
-        by_start (Started order is) =
-            half_walks m s direction q (going q order) (refused ∙ is)
-            ∙ ap (λ x. walk m direction q.earliest x (first_offset direction q) None (units_of direction q)) row
-            ∙ walk_alike left.ends right.ends direction q.earliest (begun_alike is) (units_of direction q)
-            (units_word direction q bytes) (first_offset direction q) None
-            ∙ sym (half_walks n r direction q (going q order) is)
+    half_alike =
+        elim (begins r direction q) [
+          | Done past ↦ grind (arith, common_steps, half_done, lt-ltb)
+          | Refused order error is ↦ grind (arith, common_steps, half_refused, going, refused)
+          | Started order is ↦
+              half_walks m s direction q (going q order) (refused ∙ is)
+              ∙ ap (λ x. walk m direction q.earliest x (first_offset direction q) None (units_of direction q)) row
+              ∙ walk_alike left.ends right.ends direction q.earliest (begun_alike is) (units_of direction q)
+              (units_word direction q bytes) (first_offset direction q) None
+              ∙ sym (half_walks n r direction q (going q order) is)
+        ]
 
     pub overlapping_search_alike : overlapping m s direction q ≡ overlapping n r direction q
-    overlapping_search_alike = by_start (begins r direction q)
-      where
-        by_start : Begins r direction q → overlapping m s direction q ≡ overlapping n r direction q
-        by_start (Done past) =
-            let d = lt-ltb q.end q.start past in
-            overlapping_done m s direction q d ∙ sym (overlapping_done n r direction q d)
-        by_start (Refused order error is) =
-            overlapping_refused m s direction q error (going q order) (refused ∙ is)
-            ∙ sym (overlapping_refused n r direction q error (going q order) is)
-        by_start (Started order is) =
-            overlapping_walks m s direction q (going q order) (refused ∙ is)
-            ∙ ap (λ x. overlapping_walk m direction x (first_offset direction q) (units_of direction q)) row
-            ∙ overlapping_alike left.ends right.ends direction (begun_alike is) (units_of direction q)
-            (units_word direction q bytes) (first_offset direction q)
-            ∙ sym (overlapping_walks n r direction q (going q order) is)
+    overlapping_search_alike =
+        elim (begins r direction q) [
+          | Done past ↦ grind (arith, common_steps, overlapping_done, lt-ltb)
+          | Refused order error is ↦ grind (arith, common_steps, overlapping_refused, going, refused)
+          | Started order is ↦
+              overlapping_walks m s direction q (going q order) (refused ∙ is)
+              ∙ ap (λ x. overlapping_walk m direction x (first_offset direction q) (units_of direction q)) row
+              ∙ overlapping_alike left.ends right.ends direction (begun_alike is) (units_of direction q)
+              (units_word direction q bytes) (first_offset direction q)
+              ∙ sym (overlapping_walks n r direction q (going q order) is)
+        ]

@@ -1,7 +1,7 @@
 -- What is reached from a row without reading gives what the row gives.
-use Rattle.rx_spec.proofs.Prelude.{arith, ◌≡◌, ℕ, zero, suc, true, false, if◌then◌else◌, Option, None, List, [], ◌∷◌}
-use Rattle.rx_spec.proofs.Prelude.{refl, ap, ap₂, sym, ◌∙◌, subst, common_steps, option_or, flat_map, Reading, holds_at}
-use Rattle.rx_spec.proofs.Prelude.{first_of, Row, AllNext, Short, row_at, Passing, reach_by, reach, closure, firsts}
+use Rattle.rx_spec.proofs.Prelude.{arith, ◌≡◌, ℕ, zero, suc, Option, List, [], ◌∷◌, refl, ap₂, sym, ◌∙◌, subst}
+use Rattle.rx_spec.proofs.Prelude.{common_steps, option_or, flat_map, Reading, holds_at, first_of, Row, AllNext, Short}
+use Rattle.rx_spec.proofs.Prelude.{row_at, Passing, reach_by, reach, closure, firsts}
 use Rattle.std.specs.List.{AllByRecursion as Every}
 use Rattle.rx_spec.specs.States.{look_reach}
 use Rattle.rx_spec.specs.declared.Look.{Look}
@@ -43,9 +43,7 @@ module _ (rows : List Row) (pass : Passing) where
 
   each_ready : (qs : List ℕ) → AllReady (flat_map (λ q. closure rows pass q) qs)
   each_ready [] = tt
-  each_ready (q ∷ qs) =
-      every-append (λ p. IsReady pass (row_at rows p)) (closure rows pass q) (flat_map (λ q. closure rows pass q) qs)
-      (reach_ready (depth_of rows) q) (each_ready qs)
+  each_ready (q ∷ qs) = grind (arith, common_steps, every-append, reach_ready, depth_of, each_ready qs)
 
   -- the rows of a closed list are ready
   pub closed_ready : (qs : List ℕ) → AllReady (firsts (flat_map (λ q. closure rows pass q) qs))
@@ -71,13 +69,7 @@ module _ {V : Type 0} (x : Valued V) where
         → given x q i ≡ gives_at x i (Row.Look look next) → first_given i reached ≡ given x next i
         → first_given i (look_reach pass look q reached) ≡ gives_at x i (Row.Look look next)
     look_gives Passing.Standing reached d e h = first_of-single (λ q. given x q i) q ∙ e
-    look_gives (Passing.Tested holds) reached d e h =
-        ap (λ v. first_given i (if v then reached else [])) d
-        ∙ (elim (holds_at x.reading look i)
-        as (λ v. first_given i (if v then reached else []) ≡ (if v then given x next i else None)) [
-          | true ↦ h
-          | false ↦ first_of-nil (λ (q : ℕ). given x q i)
-        ])
+    look_gives (Passing.Tested holds) reached d e h = grind (arith, common_steps, given, first_of-nil)
 
   module _ (pass : Passing) (i : ℕ) (decides : DecidesRows x.rows x.reading i pass) where
     row_reaches : (reached : ℕ → List ℕ) (q : ℕ) (row : Row) → row_at x.rows q ≡ row
@@ -98,16 +90,10 @@ module _ {V : Type 0} (x : Valued V) where
     unfolding reach Short
     reach_gives zero q short = absurd short
     reach_gives (suc n) q short =
-        row_reaches (λ p. reach x.rows pass n p) q (row_at x.rows q) refl
-        (AllNext-more (λ p. Short x.rows n p) (λ p. first_given i (reach x.rows pass n p) ≡ given x p i)
-        (λ p h. reach_gives n p h) (row_at x.rows q) short)
-        ∙ sym (given_solves x q i)
+        grind (arith, common_steps, row_reaches, AllNext-more, given, given_solves, reach_gives n)
 
     -- A closed list gives what the list gives.
     pub closed_gives : (qs : List ℕ)
         → first_given i (firsts (flat_map (λ q. closure x.rows pass q) qs)) ≡ first_given i qs
     closed_gives qs =
-        firsts_keep (λ p. given x p i) (flat_map (λ q. closure x.rows pass q) qs)
-        ∙ first_of-flat_map (λ p. given x p i) (λ q. closure x.rows pass q) qs
-        ∙ first_of-alike (λ q. first_given i (closure x.rows pass q)) (λ q. given x q i) qs
-        (λ q. reach_gives (depth_of x.rows) q (x.shallow.short q))
+        grind (arith, common_steps, firsts_keep, given, first_of-flat_map, first_of-alike, reach_gives, depth_of)

@@ -8,7 +8,6 @@ use Rattle.rx_spec.proofs.Prelude.{reading, HalfMatch, MatchError, first_of, lab
 use Rattle.rx_spec.proofs.Prelude.{HalfAnswer, at_label, last_match, plan_build}
 use Rattle.std.specs.Option.{option_map}
 use Rattle.rx_spec.specs.declared.Direction.{Direction}
-use Rattle.lemmas_walks.proofs.Firsts.{by_test}
 use Rattle.lemmas_walks.proofs.HalfSearches.{Begun, half_begun, told_same, error_not_told}
 use Rattle.lemmas_walks.proofs.Ranges.{first_in_range, range_first_at}
 use Rattle.lemmas_walks.proofs.Reaches.{reaches_sound, reaches_lie}
@@ -44,11 +43,7 @@ module _ (c : Scan) where
           → at_label (label_of label) Direction.Forward true (unit_at (read_in c) i) i
           (Ok (last_match (label_of label) i None)) (later (last_match (label_of label) i None)) ≡ Ok (Some h)
           → Told s i h
-      by_label [] is e =
-          let next = on e in
-          let low = next.0 in
-          let whole = cuts_nothing c.build.nfa c.build.kind s (unit_at (read_in c) i) is in
-          (omega arith, sym (tells_later c s i h.offset at (omega arith) whole) ∙ next.1)
+      by_label [] is e = grind (arith, common_steps, cuts_nothing, unit_at, read_in, tells_later)
       by_label (k ∷ ks) is e =
           let here : HalfMatch = record { pattern = k; offset = i } in
           let same : here ≡ h = same_Some here h (told_same (Some here) (Some h) e) in
@@ -201,13 +196,7 @@ module _ (a : Asked) (end : ℕ) where
 
     begins_in : (mode : Anchored) → a.query.mode ≡ mode
         → mode_worth a Direction.Forward (exactly end) mode a.query.start ≡ Some k → Begins a k end
-    begins_in Anchored.No is e =
-        let alone = every a.query.start in
-        let later = first_of every (range_with_len a.query.start (suc (length a.query.haystack - a.query.start))) in
-        by_test (always a)
-        (λ t. at_start (every_reached a.query.start k (sym (ap (λ v. if v then alone else later) t) ∙ e))
-        (λ m f. absurd (cc)))
-        (λ f. further is f (sym (ap (λ v. if v then alone else later) f) ∙ e))
+    begins_in Anchored.No is e = grind (arith, common_steps, always, at_start, every_reached, further)
     begins_in Anchored.Yes is e = at_start (every_reached a.query.start k e) (λ m f. absurd (cc))
     begins_in (Anchored.Pattern c) is e = at_start (one_reached a.query.start c k e) (λ m f. absurd (cc))
 

@@ -3,7 +3,7 @@ use Rattle.rx_spec.proofs.Prelude.{common_steps, ◌≡◌, ℕ, zero, suc, ◌-
 use Rattle.rx_spec.proofs.Prelude.{Option, Some, None, if◌then◌else◌, List, [], ◌∷◌, ◌++◌, length, refl, ap, ap₂, sym}
 use Rattle.rx_spec.proofs.Prelude.{subst, arith, ⊎_elim, true≢false, and_parts, or_cases, slice_get-get_or, flat_map}
 use Rattle.rx_spec.proofs.Prelude.{Reading, before, after, holds_at, Expression, IsLoopSafe, IsBounded, rounds}
-use Rattle.rx_spec.proofs.Prelude.{preferring, up_to, further, ends, reads_nothing, begins_with_edge}
+use Rattle.rx_spec.proofs.Prelude.{preferring, up_to, ends, reads_nothing, begins_with_edge}
 use Rattle.std.proofs.Common.{is_none}
 use Rattle.std.specs.List.{AllByRecursion as Every}
 use Rattle.rx_spec.specs.Looks.{holds_between}
@@ -35,8 +35,7 @@ up_to_stays : (greedy : Bool) (body : ℕ → List ℕ) → Stays body → (n : 
 unfolding up_to
 up_to_stays greedy body h zero i = (refl, tt)
 up_to_stays greedy body h (suc n) i =
-    preferring_stays greedy (flat_map (λ j. up_to greedy body n j) (body i)) i
-    (both_stay body (up_to greedy body n) h (up_to_stays greedy body h n) i)
+    grind (arith, common_steps, preferring_stays, both_stay, up_to_stays greedy body h n)
 
 module _ (r : Reading) where
   repeat_stays : (least : ℕ) (most : Option ℕ) (greedy : Bool) (body : Expression)
@@ -112,7 +111,5 @@ edge_ends r (Expression.Alternate a b) safe e i above within =
     let h = and_parts (begins_with_edge r.direction a) (begins_with_edge r.direction b) e in
     ap₂ (λ x y. x ++ y) (edge_ends r a safe.0 h.0 i above within) (edge_ends r b safe.1 h.1 i above within)
 edge_ends r (Expression.Repeat (suc n) most greedy body) safe e i above within =
-    let B : ℕ → List ℕ = λ k. ends r body k in
-    ap (λ xs. flat_map (further r (suc n) most greedy B) (flat_map (rounds B n) xs))
-    (edge_ends r body safe.1 e i above within)
+    grind (arith, common_steps, edge_ends r body safe.1 e i above within)
 edge_ends r _ safe e i above within = absurd (true≢false (sym e))

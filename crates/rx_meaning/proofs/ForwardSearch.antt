@@ -13,7 +13,7 @@ use Rattle.rx_meaning.proofs.FirstSuccess.{first_of-nil, first_of-cons, first_of
 use Rattle.rx_meaning.proofs.FirstSuccess.{range_longer}
 use Rattle.rx_meaning.proofs.Solution.{Valued, given, given_none}
 use Rattle.rx_meaning.proofs.Closures.{first_given}
-use Rattle.rx_meaning.proofs.Scan.{Scan, valued, Asked, scan_of}
+use Rattle.rx_meaning.proofs.Scan.{Scan, valued, Asked, asked, scan_of}
 use Rattle.rx_meaning.proofs.NfaStarts.{all_worth, mode_worth, start_gives, edge_alone}
 use Rattle.rx_meaning.proofs.Steps.{label_worth, step_gives}
 use Rattle.rx_meaning.proofs.LastWalks.{label_tells, Foretold}
@@ -120,12 +120,4 @@ module _ (a : Asked) where
 
 pub preference_holds : Preference
 preference_holds p es q safe bytes inside told e =
-    let a : Asked = record {
-      plan = p;
-      expressions = es;
-      safe = safe;
-      query = record q { earliest = false };
-      bytes = bytes;
-      inside = inside;
-    } in
-    forward_tells a told refl e
+    forward_tells (asked p es (record q { earliest = false }) safe bytes inside) told refl e

@@ -1,15 +1,15 @@
 -- Where the match begins whose end is the preferred one: where what is found begins.
-use Rattle.rx_spec.proofs.Prelude.{common_steps, ◌≡◌, ℕ, ◌+◌, ◌-◌, ◌<◌, ◌≤◌, true, ◌&&◌, ◌==◌, Option, Some, None, List}
+use Rattle.rx_spec.proofs.Prelude.{common_steps, ◌≡◌, ℕ, ◌+◌, ◌-◌, ◌<◌, ◌≤◌, true, ◌==◌, Option, Some, None, List}
 use Rattle.rx_spec.proofs.Prelude.{length, refl, ap, ◌∙◌, arith, and_parts, eqb-true, false_from_ne_true}
-use Rattle.rx_spec.proofs.Prelude.{slice_get-get_or, get_or, Contains, nat_le, nat_lt, if◌then◌else◌, option_and_then}
-use Rattle.rx_spec.proofs.Prelude.{list_any, range_with_len, Expression, IsLoopSafe, ends, Anchored, Query, Match}
-use Rattle.rx_spec.proofs.Prelude.{is_anchored, reading, HalfMatch, admitted, first_of, candidate}
+use Rattle.rx_spec.proofs.Prelude.{slice_get-get_or, get_or, Contains, list_any, range_with_len, Expression, IsLoopSafe}
+use Rattle.rx_spec.proofs.Prelude.{ends, Anchored, Query, Match, is_anchored, reading, HalfMatch, admitted, first_of}
+use Rattle.rx_spec.proofs.Prelude.{candidate}
 use Rattle.rx_spec.specs.Found.{admits}
 use Rattle.rx_spec.specs.declared.Direction.{Direction}
 use Rattle.lemmas_walks.proofs.FoundLaws.{IsFound, candidate_none, find_is}
 use Rattle.lemmas_walks.proofs.Ranges.{range_none, range_first_at}
 use Rattle.lemmas_walks.proofs.Reaches.{reaches_sound, reaches_lie}
-use Rattle.rx_meaning.specs.Mirrored.{start_if, start_to_end, least_start}
+use Rattle.rx_meaning.specs.Mirrored.{start_to_end, least_start}
 use Rattle.lemmas_walks.proofs.ReadUnits.{All-got}
 use Rattle.rx_meaning.proofs.Scan.{Asked}
 use Rattle.rx_meaning.proofs.NfaStarts.{edge_alone}
@@ -62,10 +62,7 @@ module _ (a : Asked) (m : Match) (is : IsFound a.expressions a.plan.line_termina
       grind (arith, common_steps)
 
   found_there : starts m.start m.pattern ≡ Some (record { pattern = m.pattern; offset = m.start })
-  found_there =
-      ap (option_and_then (start_if a.plan.line_terminator a.query.haystack m.end m.start m.pattern)) is.matches.there
-      ∙ ap (λ v. if v then Some (record { pattern = m.pattern; offset = m.start }) else None)
-      (end_any m.end (forward_ends m.start e) ends_there.0)
+  found_there = grind (arith, common_steps, end_any, ends_there)
 
   least_found : a.query.mode ≡ Anchored.No
       → least_start a.expressions a.plan.line_terminator (record a.query { end = m.end })
@@ -95,24 +92,7 @@ module _ (a : Asked) (m : Match) (is : IsFound a.expressions a.plan.line_termina
   at_edge edge = grind (arith, common_steps, edge_alone)
 
   pub found_begins : Begins a m.pattern m.end
-  found_begins = record {
-    start = m.start;
-    is_match = record {
-      low = is.low;
-      order = in_order;
-      high = ends_there.1;
-      expression = e;
-      numbered = is.matches.there;
-      matches = ends_there.0;
-    };
-    anchored = λ h.
-        let n = length a.expressions in
-        let in_span = nat_le a.query.start m.start && nat_le m.start a.query.end && nat_lt m.pattern n in
-        admits_start a.query.mode a.query.start m.start m.pattern h
-        (and_parts in_span (admits a.query.mode a.query.start m.start m.pattern) is.matches.is_admitted).1;
-    edge = at_edge;
-    least = λ mode f. least_found mode;
-  }
+  found_begins = grind (arith, common_steps, in_order, ends_there, admits_start, and_parts, at_edge, least_found)
 
   pub found_start : found_begins.start ≡ m.start
   unfolding found_begins

@@ -1,14 +1,13 @@
 -- What is found, as a first success of worths: of the places where a match may begin, and of the patterns there.
 use Rattle.rx_spec.proofs.Prelude.{rules, ◌≡◌, ℕ, zero, suc, ◌+◌, ◌-◌, ◌<◌, ◌≤◌, Bool, true, false, ◌==◌, ◌&&◌, nat_le}
-use Rattle.rx_spec.proofs.Prelude.{cond, if◌then◌else◌, find, Option, Some, None, List, [], ◌∷◌, length, slice_get}
-use Rattle.rx_spec.proofs.Prelude.{refl, ap, ap₂, sym, ◌∙◌, arith, common_steps, eq-eqb, ne_eqb, eqb-true, eqb-false}
-use Rattle.rx_spec.proofs.Prelude.{slice_get_past, option_or, option_and_then, range_with_len, Reading, Expression}
-use Rattle.rx_spec.proofs.Prelude.{ends, Anchored, Query, reading, HalfMatch, admitted, first_of, end_within, found}
+use Rattle.rx_spec.proofs.Prelude.{if◌then◌else◌, find, Option, Some, None, List, [], ◌∷◌, length, slice_get, refl, ap}
+use Rattle.rx_spec.proofs.Prelude.{sym, ◌∙◌, arith, common_steps, eq-eqb, eqb-true, eqb-false, slice_get_past}
+use Rattle.rx_spec.proofs.Prelude.{option_and_then, range_with_len, Reading, Expression, ends, Anchored, Query, reading}
+use Rattle.rx_spec.proofs.Prelude.{HalfMatch, admitted, first_of, end_within, found}
 use Rattle.std.proofs.lemmas.Bool.{and_left}
 use Rattle.std.specs.Option.{option_map}
 use Rattle.rx_spec.specs.Found.{admits}
 use Rattle.rx_spec.specs.declared.Direction.{Direction}
-use Rattle.lemmas_walks.proofs.Firsts.{by_test}
 use Rattle.lemmas_walks.proofs.Ranges.{range_none, range_alike, range_push, or_none}
 use Rattle.rx_meaning.specs.Preference.{end_of}
 use Rattle.rx_meaning.proofs.FirstSuccess.{first_of-nil, first_of-map, first_of-alike, first_of-none, range_longer}
@@ -26,15 +25,7 @@ matches_worth : (end k p : ℕ) (xs : List ℕ)
     ≡ first_of (λ j. within_end end k j) xs
 unfolding first_of
 matches_worth end k p [] = refl
-matches_worth end k p (x ∷ xs) =
-    let here : HalfMatch = record { pattern = k; offset = x } in
-    elim (nat_le x end)
-    as (λ v. option_map end_of (option_map (λ j. record { pattern = k; start = p; end = j })
-    (cond v (Some x) (find (λ j. nat_le j end) xs)))
-    ≡ option_or (if v then Some here else None) (first_of (λ j. within_end end k j) xs)) [
-      | true ↦ refl
-      | false ↦ matches_worth end k p xs
-    ]
+matches_worth end k p (x ∷ xs) = grind (arith, common_steps, matches_worth end k p xs)
 
 candidate_worth : (r : Reading) (end k p : ℕ) (v : Bool) (e : Option Expression)
     → option_map end_of (if v then option_and_then (λ e. option_map (λ j. record { pattern = k; start = p; end = j })
@@ -49,16 +40,7 @@ only_one : {V : Type 0} (f : ℕ → Option V) (c n : ℕ) → (n ≤ c → f c 
     → first_of (λ k. if k == c then f k else None) (range_with_len 0 n) ≡ f c
 only_one f c zero past = first_of-nil (λ (k : ℕ). if k == c then f k else None) ∙ sym (past (omega arith))
 only_one f c (suc n) past =
-    let g = λ (k : ℕ). if k == c then f k else None in
-    let here : 0 + n ≡ n = omega arith in
-    range_push g 0 n ∙ ap (λ k. option_or (first_of g (range_with_len 0 n)) (g k)) here
-    ∙ by_test (n == c)
-    (λ e. let same : n ≡ c = eqb-true n c e in
-    ap₂ option_or (range_none g 0 n (λ k l. let other : (0 + k == c) ≡ false = ne_eqb (0 + k) c (λ d. omega arith) in
-    ap (λ v. if v then f (0 + k) else None) other)) (ap (λ v. if v then f n else None) e ∙ ap f same))
-    (λ e. let other : n ≡ c → ⊥ = eqb-false n c e in
-    ap (λ v. option_or (first_of g (range_with_len 0 n)) (if v then f n else None)) e
-    ∙ or_none (first_of g (range_with_len 0 n)) ∙ only_one f c n (λ l. past (omega arith)))
+    grind (arith, common_steps, range_push, eqb-true, range_none, eqb-false, or_none, only_one f c n)
 
 module _ (es : List Expression) (t : ℕ) (q : Query) where
   abbrev r : Reading

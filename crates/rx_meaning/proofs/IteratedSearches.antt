@@ -1,6 +1,6 @@
 -- Two searches that answer alike from each start give the same matches one after another.
-use Rattle.rx_spec.proofs.Prelude.{arith, ◌≡◌, ◌-◌, ℕ, zero, suc, Option, Some, None, Ok, Err, refl, ap, ◌∙◌}
-use Rattle.rx_spec.proofs.Prelude.{common_steps, unless_repeat, and_then, iterate_from, iterate, Answer, Query, Match}
+use Rattle.rx_spec.proofs.Prelude.{arith, ◌≡◌, ◌-◌, ℕ, zero, suc, Option, Some, None, Ok, Err, refl, common_steps}
+use Rattle.rx_spec.proofs.Prelude.{unless_repeat, iterate_from, iterate, Answer, Query}
 use Rattle.lemmas_walks.proofs.FoundLaws.{and_then-same}
 
 abbrev pub from : Query → ℕ → Query
@@ -19,13 +19,7 @@ module _ (f g : Query → Answer) (q r : Query) (alike : (start : ℕ) → f (fr
   unfolding iterate_from
   iterate_from_alike zero start last_end = refl
   iterate_from_alike (suc n) start last_end =
-      let after = λ (m : Match). iterate_from f n (from q m.end) (Some m.end) in
-      let others = λ (m : Match). iterate_from g n (from r m.end) (Some m.end) in
-      ap (λ (answer : Answer). and_then answer after)
-      (ap (unless_repeat f (from q start) last_end) (alike start)
-      ∙ unrepeated_alike start last_end (g (from r start)))
-      ∙ and_then-same (unless_repeat g (from r start) last_end (g (from r start))) after others
-      (λ m _. iterate_from_alike n m.end (Some m.end))
+      grind (arith, common_steps, unrepeated_alike, and_then-same, iterate_from_alike n)
 
   pub iterate_alike : q.start ≡ r.start → q.end ≡ r.end → iterate f q ≡ iterate g r
   iterate_alike start end = grind (arith, common_steps, iterate_from_alike)

@@ -1,8 +1,8 @@
 -- Where the answers lie of two tables' searches, joined.
-use Rattle.rx_spec.proofs.Prelude.{◌≡◌, ℕ, ◌≤◌, ◌==◌, ◌||◌, ◌⊎◌, inl, inr, Bool, if◌then◌else◌, Option, Some, None, Ok}
-use Rattle.rx_spec.proofs.Prelude.{Err, refl, le_refl, ap, sym, ◌∙◌, subst, arith, AreBytes, Query, IsFit, Match}
-use Rattle.rx_spec.proofs.Prelude.{HalfMatch, MatchError, is_anchored, Table, IsSound, HalfAnswer, half_unsplit, Answer}
-use Rattle.rx_spec.proofs.Prelude.{match_at, with_start, back_from, with_end}
+use Rattle.rx_spec.proofs.Prelude.{rules, common_steps, ◌≡◌, ℕ, ◌≤◌, ◌==◌, ◌||◌, ◌⊎◌, inl, inr, Bool, if◌then◌else◌}
+use Rattle.rx_spec.proofs.Prelude.{Option, Some, None, Ok, Err, refl, ap, sym, ◌∙◌, arith, AreBytes, Query, IsFit}
+use Rattle.rx_spec.proofs.Prelude.{Match, HalfMatch, MatchError, is_anchored, Table, IsSound, HalfAnswer, half_unsplit}
+use Rattle.rx_spec.proofs.Prelude.{Answer, match_at, with_start, back_from, with_end}
 use Rattle.rx_spec.specs.declared.Direction.{Direction}
 use Rattle.lemmas_walks.proofs.Firsts.{by_test}
 use Rattle.rx_meaning.specs.Bounds.{IsInBounds, IsMatchInBounds, JoinQuits, JoinInBounds, IsNamed, QuittingAgain}
@@ -22,11 +22,7 @@ module _ (f r : Table) (sound : IsSound f) (sound_reverse : IsSound r) (q : Quer
     match_lies : (pattern start end : ℕ)
         → IsMatchInBounds q f.pattern_len (record { pattern = pattern; start = start; end = end })
         → match_at pattern start end ≡ Ok (Some m) → IsMatchInBounds q f.pattern_len m
-    match_lies pattern start end lies e =
-        subst (IsMatchInBounds q f.pattern_len) (same (record { pattern = pattern; start = start; end = end }) m e) lies
-      where
-        same : (a b : Match) → ◌≡◌ {A = Answer} (Ok (Some a)) (Ok (Some b)) → a ≡ b
-        same a b e = cc
+    match_lies pattern start end lies e = grind (arith, common_steps)
 
     no_error : (error : MatchError) → ◌≡◌ {A = Answer} (Err error) (Ok (Some m)) → ⊥
     no_error error e = cc
@@ -47,20 +43,9 @@ module _ (f r : Table) (sound : IsSound f) (sound_reverse : IsSound r) (q : Quer
     match_of_end : (o : HalfAnswer) → half_unsplit f Direction.Forward q ≡ o
         → with_end (half_unsplit r Direction.Reverse) f.is_always_start_anchored q o ≡ Ok (Some m)
         → IsMatchInBounds q f.pattern_len m
-    match_of_end (Err error) is e = absurd (no_error error e)
-    match_of_end (Ok None) is e = absurd (no_match e)
-      where
-        no_match : ◌≡◌ {A = Answer} (Ok None) (Ok (Some m)) → ⊥
-        no_match e = cc
-    match_of_end (Ok (Some end)) is e =
-        let b = told_ends end is in
-        let here = (end.offset == q.start) || is_anchored q.mode || f.is_always_start_anchored in
-        let made = λ (v : Bool).
-        if v then match_at end.pattern q.start end.offset else with_start end (reversed end) in
-        by_test here
-        (λ t. match_lies end.pattern q.start end.offset
-        (record { low = le_refl q.start; order = b.low; high = b.high; pattern = b.pattern }) (sym (ap made t) ∙ e))
-        (λ t. match_of_start end (reversed end) b refl (sym (ap made t) ∙ e))
+    match_of_end (Err error) is e = absurd (cc)
+    match_of_end (Ok None) is e = absurd (cc)
+    match_of_end (Ok (Some end)) is e = search (rules, told_ends, match_lies, match_of_start)
 
   -- ---- a quit
 

@@ -1,6 +1,6 @@
 -- What the two half searches answer together: what is found, and a match for each end that is met.
 use Rattle.rx_spec.proofs.Prelude.{rules, ◌≡◌, ℕ, false, Option, Some, None, Ok, Err, refl, ap, sym, ◌∙◌, none-some}
-use Rattle.rx_spec.proofs.Prelude.{same_Some, Query, Match, HalfMatch, MatchError, found, HalfAnswer, Answer, match_at}
+use Rattle.rx_spec.proofs.Prelude.{same_Some, Query, Match, HalfMatch, MatchError, found, HalfAnswer, match_at}
 use Rattle.rx_spec.proofs.Prelude.{with_end, is_always_start_anchored, Build, power, build_settings, plan_nfa}
 use Rattle.rx_spec.proofs.Prelude.{plan_build, unless_error}
 use Rattle.std.specs.Option.{option_map}
@@ -9,7 +9,7 @@ use Rattle.lemmas_walks.proofs.WalkBounds.{half_is_no_mismatch}
 use Rattle.lemmas_walks.proofs.FoundLaws.{is_found}
 use Rattle.rx_meaning.specs.Preference.{build_half_search, end_of}
 use Rattle.rx_meaning.specs.Joined.{plan_search, JoinedSearch, IsMatch, JoinedEnd, NeverMismatched}
-use Rattle.rx_meaning.proofs.Scan.{Asked}
+use Rattle.rx_meaning.proofs.Scan.{Asked, asked}
 use Rattle.rx_meaning.proofs.ForwardSearch.{preference_holds}
 use Rattle.rx_meaning.proofs.EndStarts.{always, half, Begins, answered}
 use Rattle.rx_meaning.proofs.EarliestSearch.{earliest_begins}
@@ -70,21 +70,10 @@ module _ (a : Asked) where
 
 pub joined_search_holds : JoinedSearch
 joined_search_holds p es q safe bytes inside =
-    let a : Asked = record {
-      plan = p;
-      expressions = es;
-      safe = safe;
-      query = record q { earliest = false };
-      bytes = bytes;
-      inside = inside;
-    } in
-    search_joined a refl
+    search_joined (asked p es (record q { earliest = false }) safe bytes inside) refl
 
 pub joined_end_holds : JoinedEnd
-joined_end_holds p es q end safe bytes inside e =
-    let a : Asked =
-    record { plan = p; expressions = es; safe = safe; query = q; bytes = bytes; inside = inside } in
-    end_joined a end e
+joined_end_holds p es q end safe bytes inside e = end_joined (asked p es q safe bytes inside) end e
 
 -- and so the two never disagree
 pub never_mismatched_holds : NeverMismatched
@@ -94,25 +83,13 @@ never_mismatched_holds p es q end start safe bytes inside m =
     b : Build
     b = plan_build p Direction.Forward es
 
-    ended : HalfAnswer → Answer
-    ended o =
-        with_end (build_half_search (plan_build p Direction.Reverse es) Direction.Reverse)
-        (is_always_start_anchored (plan_nfa p Direction.Forward es)) q o
-
-    an_answer : (o : Option Match) → ◌≡◌ {A = Answer} (Ok o) (Err (MatchError.PairMismatch end start)) → ⊥
-    an_answer o e = cc
-
-    an_error : (error : MatchError) → ◌≡◌ {A = Answer} (Err error) (Err (MatchError.PairMismatch end start))
-        → error ≡ MatchError.PairMismatch end start
-    an_error error e = cc
-
     by_answer : (o : HalfAnswer) → build_half_search b Direction.Forward q ≡ o
-        → ended o ≡ Err (MatchError.PairMismatch end start) → ⊥
+        → with_end (build_half_search (plan_build p Direction.Reverse es) Direction.Reverse)
+        (is_always_start_anchored (plan_nfa p Direction.Forward es)) q o ≡ Err (MatchError.PairMismatch end start) → ⊥
     by_answer (Err error) e m =
-        half_is_no_mismatch (power b) (build_settings b) Direction.Forward q end start
-        (e ∙ ap (λ x. Err x) (an_error error m))
-    by_answer (Ok None) e m = an_answer None m
+        let same : error ≡ MatchError.PairMismatch end start = cc in
+        half_is_no_mismatch (power b) (build_settings b) Direction.Forward q end start (e ∙ ap (λ x. Err x) same)
+    by_answer (Ok None) e m = cc
     by_answer (Ok (Some last)) e m =
         let joined = joined_end_holds p es q last safe bytes inside e in
-        an_answer (Some (record { pattern = last.pattern; start = joined.0; end = last.offset }))
-        (sym joined.1 ∙ ap ended e ∙ m)
+        cc

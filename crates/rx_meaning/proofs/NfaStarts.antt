@@ -1,5 +1,5 @@
 -- What the starts of a plan's NFA give, by the mode of a search.
-use Rattle.rx_spec.proofs.Prelude.{common_steps, ◌≡◌, ℕ, zero, suc, ◌+◌, ◌-◌, ◌<◌, ◌≤◌, Bool, true, false}
+use Rattle.rx_spec.proofs.Prelude.{rules, common_steps, ◌≡◌, ℕ, zero, suc, ◌+◌, ◌-◌, ◌<◌, ◌≤◌, Bool, true, false}
 use Rattle.rx_spec.proofs.Prelude.{if◌then◌else◌, Option, Some, List, [], ◌∷◌, ◌++◌, length, map, ap, sym, ◌∙◌, subst}
 use Rattle.rx_spec.proofs.Prelude.{arith, length-append, eqb-true, and_parts, map-id, All-map, All-weaker, none-some}
 use Rattle.rx_spec.proofs.Prelude.{same_Some, All, slice_get, option_and_then, list_all, range_with_len, Expression}
@@ -56,9 +56,7 @@ module _ {V : Type 0} (a : Asked) (direction : Direction) (worth : ℕ → ℕ �
   read = map (read_as direction) a.expressions
 
   read_safe : All IsLoopSafe read
-  read_safe =
-      All-map IsLoopSafe (read_as direction) a.expressions
-      (All-weaker IsLoopSafe (λ e. IsLoopSafe (read_as direction e)) (safe_to_read direction) a.expressions a.safe)
+  read_safe = search (rules, All-map, All-weaker, safe_to_read)
 
   -- at a place, what pattern k is worth, and the first worth of all
   abbrev pub one_worth : ℕ → ℕ → Option V

@@ -1,10 +1,9 @@
 -- What states give for exactly one place: which pattern, if any, matches up to it. A step keeps what later places
 -- are given, and its label's first pattern is what this place is given.
-use Rattle.rx_spec.proofs.Prelude.{common_steps, ◌≡◌, ℕ, ◌+◌, ◌<◌, ◌==◌, ◌||◌, true, if◌then◌else◌, Option, Some, None}
-use Rattle.rx_spec.proofs.Prelude.{List, [], ◌∷◌, ap, sym, ◌∙◌, subst, arith, eq-eqb, eqb-true, slice_get, Contains}
-use Rattle.rx_spec.proofs.Prelude.{get_or, option_or, list_any, first_of, State, is_dead_state}
+use Rattle.rx_spec.proofs.Prelude.{common_steps, ◌≡◌, ℕ, ◌+◌, ◌<◌, ◌==◌, true, if◌then◌else◌, Option, Some, None, List}
+use Rattle.rx_spec.proofs.Prelude.{[], ◌∷◌, arith, eq-eqb, eqb-true, slice_get, Contains, get_or, list_any, first_of}
+use Rattle.rx_spec.proofs.Prelude.{State, is_dead_state}
 use Rattle.std.proofs.lemmas.List.Folds.{Any-from_list_any, list_any_at}
-use Rattle.lemmas_walks.proofs.Firsts.{by_test}
 use Rattle.lemmas_walks.proofs.ReadUnits.{unit_at}
 use Rattle.rx_meaning.proofs.FirstSuccess.{first_of-nil, first_of-cons}
 use Rattle.rx_meaning.proofs.Solution.{given, given_none}
@@ -20,19 +19,10 @@ exactly place k i = if i == place then Some k else None
 pub ends_exactly : (place k : ℕ) (xs : List ℕ)
     → first_of (λ j. exactly place k j) xs ≡ (if list_any (λ j. j == place) xs then Some k else None)
 ends_exactly place k [] = first_of-nil (λ (j : ℕ). exactly place k j)
-ends_exactly place k (x ∷ xs) =
-    let rest = first_of (λ j. exactly place k j) xs in
-    first_of-cons (λ j. exactly place k j) x xs
-    ∙ by_test (x == place)
-    (λ e. ap (λ v. option_or (if v then Some k else None) rest) e
-    ∙ sym (ap (λ v. if v || list_any (λ j. j == place) xs then Some k else None) e))
-    (λ e. ap (λ v. option_or (if v then Some k else None) rest) e ∙ ends_exactly place k xs
-    ∙ sym (ap (λ v. if v || list_any (λ j. j == place) xs then Some k else None) e))
+ends_exactly place k (x ∷ xs) = grind (arith, common_steps, first_of-cons, ends_exactly place k xs)
 
 pub any_end : (place : ℕ) (xs : List ℕ) → list_any (λ j. j == place) xs ≡ true → Contains xs place
-any_end place xs h =
-    let a = Any-from_list_any (λ j. j == place) xs h in
-    subst (Contains xs) (eqb-true a.1 place a.4) (a.0, a.2, a.3)
+any_end place xs h = grind (arith, common_steps, Any-from_list_any, eqb-true)
 
 pub end_any : (place : ℕ) (xs : List ℕ) → Contains xs place → list_any (λ j. j == place) xs ≡ true
 end_any place xs (i, within, e) = list_any_at (λ j. j == place) xs i place within (eq-eqb (get_or xs i place) place e)

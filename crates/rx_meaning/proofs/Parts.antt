@@ -27,10 +27,7 @@ rounds_still n body h k i within =
 rounds_turned : (B : ℕ → List ℕ) (n i : ℕ) → flat_map (λ j. B j) (rounds B n i) ≡ flat_map (λ j. rounds B n j) (B i)
 unfolding rounds
 rounds_turned B zero i = append-nil (B i) ∙ sym (flat_map_single (λ j. j) (B i) ∙ map-id (B i))
-rounds_turned B (suc n) i =
-    flat_map-flat_map (λ j. rounds B n j) B (B i)
-    ∙ flat_map-alike (λ j. flat_map (λ l. B l) (rounds B n j)) (λ j. flat_map (λ l. rounds B n l) (B j)) (B i)
-    (λ j. rounds_turned B n j)
+rounds_turned B (suc n) i = grind (arith, common_steps, flat_map-flat_map, flat_map-alike, rounds_turned B n)
 
 preferring_none : (greedy : Bool) (i : ℕ) → preferring greedy [] i ≡ i ∷ []
 preferring_none true i = refl
@@ -64,10 +61,7 @@ module _ {V : Type 0} (x : Valued V) where
   class_given set next i (Some byte) = grind (arith, common_steps, given, first_of-single, first_of-nil)
 
   class_means : (set : ℕ) → Means (row_to (Row.Bytes set)) (λ i. class_ends set (after x.reading.units i) i)
-  class_means set = record {
-    entry = λ base next stands i within.
-        given_as x base i (Row.Bytes set next) stands.0 ∙ class_given set next i (after x.reading.units i);
-  }
+  class_means set = grind (arith, common_steps, given_as, class_given)
 
   look_means : (look : Look) → Means (row_to (Row.Look look)) (λ i. if holds_at x.reading look i then i ∷ [] else [])
   look_means look = record {
@@ -82,14 +76,7 @@ module _ {V : Type 0} (x : Valued V) where
 
   chained_means : {first second : Maker} {A B : ℕ → List ℕ} → Advances (length x.reading.units) 0 A
       → Means first A → Means second B → Means (chained first second) (λ i. flat_map (λ j. B j) (A i))
-  chained_means {first} {second} {A} {B} lies f s = record {
-    entry = λ base next stands i within.
-        let after = second base next in
-        let before = first (base + length after.rows) after.entry in
-        f.entry (base + length after.rows) after.entry (stands-right x.rows base after.rows before.rows stands) i within
-        ∙ ends_lead after.entry next i A B lies
-        (s.entry base next (stands-left x.rows base after.rows before.rows stands)) within;
-  }
+  chained_means {first} {second} {A} {B} lies f s = grind (arith, common_steps, stands-right, ends_lead, stands-left)
 
   either_means : {first second : Maker} {A B : ℕ → List ℕ}
       → Means first A → Means second B → Means (either first second) (λ i. A i ++ B i)
@@ -128,9 +115,7 @@ module _ {V : Type 0} (x : Valued V) where
   optional_means : (greedy : Bool) {body : Maker} {B : ℕ → List ℕ} → Advances (length x.reading.units) 0 B
       → Means body B → (n : ℕ) → Means (optional greedy n body) (up_to greedy B n)
   unfolding optional up_to
-  optional_means greedy lies h zero = record {
-    entry = λ base next stands i within. straight_means.entry base next stands i within;
-  }
+  optional_means greedy lies h zero = grind (arith, common_steps, straight_means)
   optional_means greedy {body} {B} lies h (suc n) = record {
     entry = λ base next stands i within.
         let inner = optional greedy n body base next in
@@ -165,19 +150,19 @@ module _ {V : Type 0} (x : Valued V) where
         ∙ first_of-nil (λ j. given x base j) ∙ sym (first_of-nil (λ j. given x next j)))
         ∙ ap (first_end next) (preferring_none greedy i)
     looped base next stands (suc m) i within room =
-        let round = body (base + 1) base in
-        given_as x base i (choice greedy round.entry next) stands.0
-        ∙ choice_given greedy round.entry next i (flat_map (λ j. up_to greedy B m j) (B i))
-        (h.entry (base + 1) base stands.1 i within
-        ∙ first_of-same (Lies (length x.reading.units) (i + 1)) (λ j. given x base j)
-        (λ j. first_end next (up_to greedy B m j)) (B i)
-        (λ j lie. looped base next stands m j lie.1 (omega arith)) (lies i within)
-        ∙ sym (first_of-flat_map (λ l. given x next l) (λ j. up_to greedy B m j) (B i)))
+        grind (
+          arith,
+          common_steps,
+          given_as,
+          choice_given,
+          first_of-same,
+          given,
+          first_of-flat_map,
+          looped base next stands m,
+        )
 
     loop_means : Means (loop greedy body) (λ i. up_to greedy B (length x.reading.units - i) i)
-    loop_means = record {
-      entry = λ base next stands i within. looped base next stands (length x.reading.units - i) i within (omega arith);
-    }
+    loop_means = grind (arith, common_steps, looped)
 
   repeated_means : (least : ℕ) (most : Option ℕ) (greedy : Bool) (e : Expression) → IsBounded least most e
       → Means (compile e) (λ i. ends x.reading e i)
@@ -185,9 +170,7 @@ module _ {V : Type 0} (x : Valued V) where
       (λ i. flat_map (λ j. further x.reading least most greedy (λ k. ends x.reading e k) j)
       (rounds (λ k. ends x.reading e k) least i))
   repeated_means least None greedy e bounded h =
-      let lies = rounds_still (length x.reading.units) (λ k. ends x.reading e k) (still x.reading e) least in
-      chained_means lies (copies_mean (still x.reading e) h least)
-      (loop_means greedy (advances_one x.reading e bounded) h)
+      search (rules, rounds_still, still, chained_means, copies_mean, loop_means, advances_one)
   repeated_means least (Some most) greedy e bounded h =
       search (rules, rounds_still, still, chained_means, copies_mean, optional_means)
 

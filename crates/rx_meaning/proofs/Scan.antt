@@ -62,6 +62,11 @@ pub record Asked : Type 0 where
   pub bytes : AreBytes query.haystack
   pub inside : query.end ≤ length query.haystack
 
+abbrev pub asked : (p : Plan) (es : List Expression) (q : Query) → All IsLoopSafe es → AreBytes q.haystack
+    → q.end ≤ length q.haystack → Asked
+asked p es q safe bytes inside =
+    record { plan = p; expressions = es; safe = safe; query = q; bytes = bytes; inside = inside }
+
 -- the build of one direction reads the haystack
 abbrev pub scan_of : Asked → Direction → Scan
 scan_of a direction = record {

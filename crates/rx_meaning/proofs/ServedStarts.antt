@@ -1,7 +1,7 @@
 -- Tables, and builds, as machines whose searches end well: then a table and the build that it gives are alike, and
 -- so are copies.
 use Rattle.rx_spec.proofs.Prelude.{arith, ◌≡◌, ℕ, ◌≤◌, Bool, true, false, if◌then◌else◌, Some, None, [], length, refl}
-use Rattle.rx_spec.proofs.Prelude.{ap, sym, ◌∙◌, subst, common_steps, slice_get_past, same_Some, Contains, slice_get}
+use Rattle.rx_spec.proofs.Prelude.{sym, ◌∙◌, subst, common_steps, slice_get_past, same_Some, Contains, slice_get}
 use Rattle.rx_spec.proofs.Prelude.{Anchored, Settings, Build, dead, start_node, built_entry, power, build_settings}
 use Rattle.rx_spec.proofs.Prelude.{built_modes, Table, IsTable, SameLabels}
 use Rattle.rx_spec.specs.Labels.{table_modes}
@@ -33,9 +33,7 @@ power_starts_well b = record {
   where
     by_starts : (v : Bool) (n k : ℕ) (start : Start) → (if v then Some (length b.nfa.start_patterns) else None) ≡ Some n
         → n ≤ k → (if v then start_node b.nfa (slice_get b.nfa.start_patterns k) start else dead) ≡ dead
-    by_starts true n k start e h =
-        let same = same_Some (length b.nfa.start_patterns) n e in
-        ap (λ o. start_node b.nfa o start) (slice_get_past b.nfa.start_patterns k (subst (λ m. m ≤ k) (sym same) h))
+    by_starts true n k start e h = grind (arith, common_steps, same_Some, slice_get_past)
     by_starts false n k start e h = refl
 
     past_is_dead : (n k : ℕ) (start : Start) → (build_settings b).pattern_starts ≡ Some n → n ≤ k

@@ -57,9 +57,7 @@ module _ {V : Type 0} (x : Valued V) where
   unfolding Short settle
   settle-more i later zero m q le h = absurd h
   settle-more i later (suc n) zero q le h = absurd (omega arith)
-  settle-more i later (suc n) (suc m) q le h =
-      row_gives-same (λ p. Short x.rows n p) i later (λ p. settle x i later n p) (λ p. settle x i later m p)
-      (λ p k. settle-more i later n m p (omega arith) k) (row_at x.rows q) h
+  settle-more i later (suc n) (suc m) q le h = grind (arith, common_steps, row_gives-same, settle-more i later n m)
 
   settle_gives : (i : ℕ) (later : ℕ → Option V) (n q : ℕ) → Short x.rows n q
       → settle x i later n q ≡ row_gives x i later (λ p. settle x i later n p) (row_at x.rows q)
@@ -108,9 +106,7 @@ module _ {V : Type 0} (x : Valued V) where
   left_none : (m i q : ℕ) → ((k j : ℕ) → i ≤ j → x.worth k j ≡ None) → given_left x m i q ≡ None
   unfolding given_left
   left_none zero i q g = settle-none i (λ next. None) (λ p. refl) (λ k. g k i (omega arith)) (depth_of x.rows) q
-  left_none (suc m) i q g =
-      settle-none i (λ next. given_left x m (i + 1) next)
-      (λ p. left_none m (i + 1) p (λ k j h. g k j (omega arith))) (λ k. g k i (omega arith)) (depth_of x.rows) q
+  left_none (suc m) i q g = grind (arith, common_steps, settle-none, depth_of, left_none m (i + 1))
 
   pub given_none : (q i : ℕ) → ((k j : ℕ) → i ≤ j → x.worth k j ≡ None) → given x q i ≡ None
   unfolding given

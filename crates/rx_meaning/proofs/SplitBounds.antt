@@ -2,13 +2,13 @@
 use Rattle.rx_spec.proofs.Prelude.{common_steps, ◌≡◌, ℕ, zero, suc, ◌-◌, ◌≤◌, ◌⊎◌, inl, ⊎_elim, Bool, true, false}
 use Rattle.rx_spec.proofs.Prelude.{if◌then◌else◌, Some, None, Ok, Err, List, [], ◌∷◌, refl, subst, arith}
 use Rattle.rx_spec.proofs.Prelude.{Contains-append_cases, Contains, flat_map, AreBytes, Query, IsFit, HalfMatch}
-use Rattle.rx_spec.proofs.Prelude.{MatchError, is_anchored, Table, IsSound, HalfAnswer, half_search, Item, Ending}
-use Rattle.rx_spec.proofs.Prelude.{overlapping, is_split, narrower, is_narrowest, unless_split, skip_splits}
-use Rattle.rx_spec.proofs.Prelude.{split_limit, skips_splits, item_unsplit}
+use Rattle.rx_spec.proofs.Prelude.{MatchError, Table, IsSound, HalfAnswer, half_search, Item, Ending, overlapping}
+use Rattle.rx_spec.proofs.Prelude.{narrower, is_narrowest, unless_split, skip_splits, split_limit, skips_splits}
+use Rattle.rx_spec.proofs.Prelude.{item_unsplit}
 use Rattle.rx_spec.specs.Splits.{items_unsplit}
 use Rattle.rx_spec.specs.declared.Direction.{Direction}
 use Rattle.lemmas_walks.proofs.WalkBounds.{half_met}
-use Rattle.lemmas_walks.proofs.Firsts.{by_test, Contains-here, Contains-there, Contains-nil}
+use Rattle.lemmas_walks.proofs.Firsts.{Contains-here, Contains-there, Contains-nil}
 use Rattle.lemmas_walks.proofs.ReadUnits.{narrower_bytes}
 use Rattle.lemmas_walks.proofs.Reaches.{only_one}
 use Rattle.rx_meaning.specs.Bounds.{IsInBounds, HalfUnsplitInBounds, OverlappingUnsplitQuits}
@@ -119,22 +119,9 @@ kept_item q h (x ∷ xs) c =
     Contains-there x xs (Item.Reported h) (kept_item q h xs d))
     (Contains-append_cases (item_unsplit q x) (flat_map (item_unsplit q) xs) (Item.Reported h) c)
   where
-    alone : (x : Item) → Contains (x ∷ []) (Item.Reported h) → x ≡ Item.Reported h
-    alone x c = only_one x (Item.Reported h) c
-
-    not_skipped : Item.Skipped ≡ Item.Reported h → ⊥
-    not_skipped e = cc
-
     one : (x : Item) → Contains (item_unsplit q x) (Item.Reported h) → x ≡ Item.Reported h
-    one Item.Skipped c = alone Item.Skipped c
-    one (Item.Reported m) c =
-        let left = λ (v w : Bool). if v then (if w then Item.Skipped ∷ [] else []) else (Item.Reported m ∷ []) in
-        let Has = λ (v w : Bool). Contains (left v w) (Item.Reported h) in
-        by_test (is_split q.haystack m.offset)
-        (λ s. let d = subst (λ v. Has v (is_anchored q.mode)) s c in
-        by_test (is_anchored q.mode) (λ a. absurd (not_skipped (alone Item.Skipped (subst (Has true) a d))))
-        (λ a. absurd (Contains-nil (Item.Reported h) (subst (Has true) a d))))
-        (λ s. alone (Item.Reported m) (subst (λ v. Has v (is_anchored q.mode)) s c))
+    one Item.Skipped c = only_one Item.Skipped (Item.Reported h) c
+    one (Item.Reported m) c = grind (arith, common_steps, only_one, Contains-nil)
 
 pub overlapping_unsplit_in_bounds : OverlappingUnsplitInBounds
 overlapping_unsplit_in_bounds t sound direction q h bytes c = by_flag (skips_splits t) c

@@ -1,10 +1,9 @@
 -- What the start rows of an NFA give: each pattern's entry, the start of all, and the unanchored one.
 use Rattle.rx_spec.proofs.Prelude.{common_steps, ◌≡◌, ℕ, zero, suc, ◌+◌, ◌<◌, ◌≤◌, true, false, if◌then◌else◌, Option}
-use Rattle.rx_spec.proofs.Prelude.{None, List, [], ◌∷◌, length, slice_get, refl, ap, sym, ◌∙◌, subst, arith}
-use Rattle.rx_spec.proofs.Prelude.{agree_below_at, All-head, All-tail, slice_get_past, slice_get-get_or, All, get_or}
-use Rattle.rx_spec.proofs.Prelude.{option_or, option_and_then, range_with_len, AreBytes, contains, all_bytes}
-use Rattle.rx_spec.proofs.Prelude.{Expression, IsLoopSafe, ends, first_of, Row, compile, patterns_from, start_of_all}
-use Rattle.rx_spec.proofs.Prelude.{lead_in}
+use Rattle.rx_spec.proofs.Prelude.{None, List, [], ◌∷◌, length, slice_get, refl, ap, sym, ◌∙◌, arith, agree_below_at}
+use Rattle.rx_spec.proofs.Prelude.{All-head, All-tail, slice_get_past, slice_get-get_or, All, get_or, option_or}
+use Rattle.rx_spec.proofs.Prelude.{option_and_then, range_with_len, AreBytes, contains, all_bytes, Expression}
+use Rattle.rx_spec.proofs.Prelude.{IsLoopSafe, ends, first_of, Row, compile, patterns_from, start_of_all, lead_in}
 use Rattle.lemmas_walks.proofs.RowPlaces.{Stands, stands-left, stands-right}
 use Rattle.rx_meaning.proofs.FirstSuccess.{first_of-alike, first_of-cons, first_of-nil, first_of-single}
 use Rattle.rx_meaning.proofs.Solution.{Valued, read_by, given, given_as}
@@ -40,14 +39,7 @@ module _ {V : Type 0} (x : Valued V) where
       let here : k ≡ k + 0 = omega arith in
       grind (arith, common_steps, first_of-alike, given, given_as)
   entry_gives (e ∷ es) safe base k stands i within (suc n) =
-      let part = compile e (base + 1) base in
-      let others = patterns_from (base + 1 + length part.rows) (k + 1) es in
-      let back = stands-right x.rows base (Row.Match k ∷ part.rows) others.rows stands in
-      let place : base + suc (length part.rows) ≡ base + 1 + length part.rows = omega arith in
-      let number : k + 1 + n ≡ k + suc n = omega arith in
-      entry_gives es (All-tail IsLoopSafe e es safe) (base + 1 + length part.rows) (k + 1)
-      (subst (λ b. Stands x.rows b others.rows) place back) i within n
-      ∙ ap (λ m. option_and_then (pattern_worth i m) (slice_get es n)) number
+      grind (arith, common_steps, stands-right, All-tail, entry_gives es (All-tail IsLoopSafe e es safe))
 
   pub start_of_all_gives : (entries : List ℕ) (base : ℕ) → Stands x.rows base (start_of_all base entries).rows → (i : ℕ)
       → given x (start_of_all base entries).entry i ≡ first_of (λ q. given x q i) entries

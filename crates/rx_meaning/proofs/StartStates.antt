@@ -85,9 +85,7 @@ module _ (a : Asked) (direction : Direction) where
 
       facts : start_facts t first_context
           ≡ facts_of t (before (in_order direction a.query.haystack) (first_place direction a.query))
-      facts =
-          start_knows t (beside direction a.query)
-          ∙ ap (facts_of t) (sym (beside_at_place direction a.query order a.inside))
+      facts = grind (arith, common_steps, start_knows, t, beside_at_place)
 
       stands : (row : Option ℕ) → StandsAt (scan_of a direction)
           (first_state (scan_of a direction).build.nfa row first_context) (first_place direction a.query)

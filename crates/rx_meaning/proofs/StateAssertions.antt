@@ -62,9 +62,7 @@ module _ {V : Type 0} (c : Scan) (worth : ℕ → ℕ → Option V) where
   both_each : (P : ℕ → Type 0) (test : ℕ → Bool) (xs : List ℕ) → Every P xs → list_any test xs ≡ false
       → Every (λ q. P q × (test q ≡ false)) xs
   both_each P test [] h e = tt
-  both_each P test (q ∷ qs) h e =
-      let k = or_parts (test q) (list_any test qs) e in
-      ((h.0, k.0), both_each P test qs h.1 k.1)
+  both_each P test (q ∷ qs) h e = grind (arith, common_steps, or_parts, both_each P test qs h.1)
 
   -- where none of them is an assertion, any test leaves them as they are
   undecided : (pass : Passing) (i : ℕ) (qs : List ℕ) → AllReady nfa.rows Passing.Standing qs

@@ -1,9 +1,9 @@
 -- One step of a state, at a place of a reading: what the state gives there is what the next one gives one place
 -- on, and what its label is worth here.
 use Rattle.rx_spec.proofs.Prelude.{arith, ◌≡◌, ℕ, ◌+◌, Bool, true, false, Option, Some, None, List, [], ◌∷◌, ◌++◌, refl}
-use Rattle.rx_spec.proofs.Prelude.{ap, ap₂, sym, ◌∙◌, subst, common_steps, slice_get, option_or, flat_map, unit_of}
-use Rattle.rx_spec.proofs.Prelude.{after, first_of, Row, Nfa, unit_facts, row_at, Passing, State, decided_rows}
-use Rattle.rx_spec.proofs.Prelude.{holds_before, pattern_of, is_match_row, to_first_match, cut, target, step}
+use Rattle.rx_spec.proofs.Prelude.{ap, sym, ◌∙◌, subst, common_steps, slice_get, option_or, flat_map, unit_of, after}
+use Rattle.rx_spec.proofs.Prelude.{first_of, Row, Nfa, unit_facts, row_at, Passing, State, decided_rows, holds_before}
+use Rattle.rx_spec.proofs.Prelude.{pattern_of, is_match_row, to_first_match, cut, target, step}
 use Rattle.rx_spec.specs.declared.Look.{Look}
 use Rattle.rx_spec.specs.declared.MatchKind.{MatchKind}
 use Rattle.lemmas_walks.proofs.Firsts.{by_test}
@@ -34,16 +34,7 @@ module _ (rows : List Row) where
   head_cut : (qs : List ℕ) → slice_get (matched (to_first_match rows qs)) 0 ≡ slice_get (matched qs) 0
   unfolding to_first_match
   head_cut [] = refl
-  head_cut (q ∷ qs) =
-      by_test (is_match_row (row_at rows q))
-      (λ e. let k = matched_row (row_at rows q) e in
-      ap (λ l. slice_get (matched l) 0) (first_here rows q qs e)
-      ∙ ap (λ row. slice_get (pattern_of row ++ []) 0) k.1
-      ∙ sym (ap (λ row. slice_get (pattern_of row ++ matched qs) 0) k.1))
-      (λ e. let none = pattern_of-none (row_at rows q) e in
-      ap (λ l. slice_get (matched l) 0) (first_later rows q qs e)
-      ∙ ap (λ ks. slice_get (ks ++ matched (to_first_match rows qs)) 0) none ∙ head_cut qs
-      ∙ sym (ap (λ ks. slice_get (ks ++ matched qs) 0) none))
+  head_cut (q ∷ qs) = grind (arith, common_steps, matched_row, first_here, pattern_of-none, first_later, head_cut qs)
 
   -- where nothing matches, nothing is cut
   uncut : (qs : List ℕ) → matched (to_first_match rows qs) ≡ [] → to_first_match rows qs ≡ qs
@@ -118,10 +109,7 @@ module _ {V : Type 0} (c : Scan) (worth : ℕ → ℕ → Option V) where
 
     first_reads : (q : ℕ) (qs : List ℕ) → Ready (q ∷ qs)
         → first_given x i (q ∷ qs) ≡ reads_first (row_at nfa.rows q) (first_given x i qs)
-    first_reads q qs ready =
-        first_of-cons (λ p. given x p i) q qs
-        ∙ ap (λ v. option_or v (first_given x i qs))
-        (given_solves x q i ∙ row_reads holds i (row_at nfa.rows q) ready.0)
+    first_reads q qs ready = grind (arith, common_steps, first_of-cons, given, first_given, given_solves, row_reads)
 
     -- where no match is worth anything here, they give what their targets give
     later_gives : ((k : ℕ) → worth k i ≡ None) → (qs : List ℕ) → Ready qs
@@ -129,26 +117,37 @@ module _ {V : Type 0} (c : Scan) (worth : ℕ → ℕ → Option V) where
     later_gives none [] ready =
         first_of-nil (λ (q : ℕ). given x q i) ∙ sym (first_of-nil (λ (q : ℕ). given x q (i + 1)))
     later_gives none (q ∷ qs) ready =
-        let row = row_at nfa.rows q in
-        let on = target (unit_at (read_in c) i) row in
-        first_reads q qs ready
-        ∙ ap (λ v. option_or (option_or (first_given x (i + 1) on) v) (first_given x i qs))
-        (first_of-none (λ k. worth k i) (pattern_of row) none)
-        ∙ ap₂ option_or (or_none (first_given x (i + 1) on)) (later_gives none qs ready.1)
-        ∙ sym (first_of-append (λ p. given x p (i + 1)) on (targets i qs))
+        grind (
+          arith,
+          common_steps,
+          unit_at,
+          read_in,
+          first_reads,
+          first_given,
+          first_of-none,
+          or_none,
+          first_of-append,
+          given,
+          later_gives none qs ready.1,
+        )
 
     -- where nothing is given past this place, they give what their matches are worth
     here_gives : ((q : ℕ) → given x q (i + 1) ≡ None) → (qs : List ℕ) → Ready qs
         → first_given x i qs ≡ label_worth worth i (matched nfa.rows qs)
     here_gives none [] ready = first_of-nil (λ (q : ℕ). given x q i) ∙ sym (first_of-nil (λ (k : ℕ). worth k i))
     here_gives none (q ∷ qs) ready =
-        let row = row_at nfa.rows q in
-        let on = target (unit_at (read_in c) i) row in
-        first_reads q qs ready
-        ∙ ap (λ v. option_or (option_or v (label_worth worth i (pattern_of row))) (first_given x i qs))
-        (first_of-none (λ p. given x p (i + 1)) on none)
-        ∙ ap (option_or (label_worth worth i (pattern_of row))) (here_gives none qs ready.1)
-        ∙ sym (first_of-append (λ k. worth k i) (pattern_of row) (matched nfa.rows qs))
+        grind (
+          arith,
+          common_steps,
+          unit_at,
+          read_in,
+          first_reads,
+          first_given,
+          first_of-none,
+          given,
+          first_of-append,
+          here_gives none qs ready.1,
+        )
 
     -- where every match is worth something here, what comes after the first match doesn't matter
     abbrev Cut : List ℕ → List ℕ → Type 0
@@ -172,30 +171,26 @@ module _ {V : Type 0} (c : Scan) (worth : ℕ → ℕ → Option V) where
     cut_other : (q : ℕ) (qs left : List ℕ) → Ready (q ∷ qs) → is_match_row (row_at nfa.rows q) ≡ false
         → Cut qs left → Cut (q ∷ qs) (q ∷ left)
     cut_other q qs left ready e h =
-        let row = row_at nfa.rows q in
-        let on = target (unit_at (read_in c) i) row in
-        let none = pattern_of-none row e in
-        first_reads q qs ready
-        ∙ ap (λ ks. option_or (option_or (first_given x (i + 1) on) (label_worth worth i ks)) (first_given x i qs)) none
-        ∙ ap (λ v. option_or (option_or (first_given x (i + 1) on) v) (first_given x i qs))
-        (first_of-nil (λ (k : ℕ). worth k i))
-        ∙ ap₂ option_or (or_none (first_given x (i + 1) on)) h
-        ∙ sym (or_assoc (first_given x (i + 1) on) (first_given x (i + 1) (targets i left))
-        (label_worth worth i (matched nfa.rows left)))
-        ∙ ap (λ v. option_or v (label_worth worth i (matched nfa.rows left)))
-        (sym (first_of-append (λ p. given x p (i + 1)) on (targets i left)))
-        ∙ ap (λ ks. option_or (first_given x (i + 1) (on ++ targets i left))
-        (label_worth worth i (ks ++ matched nfa.rows left))) (sym none)
+        grind (
+          arith,
+          common_steps,
+          unit_at,
+          read_in,
+          pattern_of-none,
+          first_reads,
+          first_given,
+          first_of-nil,
+          or_none,
+          or_assoc,
+          first_of-append,
+        )
 
     cut_gives : ((k : ℕ) → (v : V) × (worth k i ≡ Some v)) → (qs : List ℕ) → Ready qs
         → Cut qs (to_first_match nfa.rows qs)
     unfolding to_first_match first_of
     cut_gives all [] ready = refl
     cut_gives all (q ∷ qs) ready =
-        by_test (is_match_row (row_at nfa.rows q))
-        (λ e. subst (Cut (q ∷ qs)) (sym (first_here nfa.rows q qs e)) (cut_match all q qs ready e))
-        (λ e. subst (Cut (q ∷ qs)) (sym (first_later nfa.rows q qs e))
-        (cut_other q qs (to_first_match nfa.rows qs) ready e (cut_gives all qs ready.1)))
+        grind (arith, common_steps, first_here, cut_match, first_later, cut_other, cut_gives all qs ready.1)
 
   -- ---- the step
 

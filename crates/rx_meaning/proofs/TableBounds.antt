@@ -177,12 +177,8 @@ module _ (t : Table) (sound : IsSound t) (direction : Direction) (q : Query) (by
       → IsNamed q byte offset × Quitting t direction q byte offset
   start_named (StartError.Quit b) byte offset order is e =
       let parts = start_quits t.settings (beside direction q) q.mode b is in
-      let same = quit_parts byte b offset (beside_offset direction q) e in
-      subst (λ x. IsNamed q x offset × Quitting t direction q x offset) (sym same.0)
-      (subst (λ o. IsNamed q b o) (sym same.1) (beside_named direction q b order parts.0), inl parts)
-    where
-      quit_parts : (a b x y : ℕ) → MatchError.Quit a x ≡ MatchError.Quit b y → (a ≡ b) × (x ≡ y)
-      quit_parts a b x y e = (cc, cc)
+      let named = beside_named direction q b order parts.0 in
+      grind (arith, common_steps)
   start_named (StartError.UnsupportedAnchored mode) byte offset order is e = absurd (cc)
 
   quit_named : (byte offset : ℕ) → half_search t.machine t.settings direction q ≡ Err (MatchError.Quit byte offset)

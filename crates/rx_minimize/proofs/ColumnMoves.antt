@@ -1,15 +1,11 @@
 -- A dense table as the refinement sees it: its columns are the units.
-use Rattle.rx_spec.proofs.Prelude.{◌≡◌, ◌<◌, ◌≤◌, ◌+◌, ◌*◌, ◌/◌, ◌^◌, ◌∙◌, ℕ, List, length, sym, arith, mul-le, pow_pos}
-use Rattle.rx_spec.proofs.Prelude.{IfOk, Result, Ok, Err, slice_index, IsTable}
+use Rattle.rx_spec.proofs.Prelude.{common_steps, ◌≡◌, ◌<◌, ◌≤◌, ◌+◌, ◌*◌, ◌/◌, ◌^◌, ◌∙◌, ℕ, List, length, sym, arith}
+use Rattle.rx_spec.proofs.Prelude.{mul-le, pow_pos, IfOk, Result, slice_index, IsTable}
+use Rattle.rx_minimize.proofs.Prelude.{AreBlocks, AreByLabel, AreMovesByColumn, AreRows, Layout, alphabet_len, column}
+use Rattle.rx_minimize.proofs.Prelude.{column_within, multiple_below, row-below, row_count, stride, table_of}
 use Rattle.std.proofs.lemmas.Int.Digits.{length-digits_of-le}
-use Rattle.rx_base.specs.ByteClasses.{alphabet_len}
 use Rattle.rx_refine.specs.Moves.{Moves, next_row, read_limit, binary_digits, AreAlikeByNumber, AreToldByNumber}
-use Rattle.rx_dense.specs.Layouts.{AreRows, Layout, column, row_count, stride, table_of}
-use Rattle.rx_dense.proofs.Rows.{column_within, row-below, multiple_below}
 use Rattle.rx_order.proofs.UsedColumns.{column_used}
-use Rattle.rx_minimize.specs.LabelNumbers.{AreByLabel}
-use Rattle.rx_minimize.specs.Blocks.{AreBlocks}
-use Rattle.rx_minimize.specs.Quotient.{AreMovesByColumn}
 use Rattle.rx_minimize.proofs.ColumnWords.{alike_by_units, told_by_units}
 
 -- the steps of a refinement fit their counter
@@ -69,5 +65,4 @@ refined l rows is {m} {labels} {blocks} of labelled are =
 
 -- two facts of what is answered are both facts of it
 pub both : {T E : Type 0} (r : Result T E) (A B : T → Type 0) → IfOk r A → IfOk r B → IfOk r (λ x. A x × B x)
-both (Ok x) A B a b = (a, b)
-both (Err e) A B a b = tt
+both r A B a b = grind (arith, common_steps)

@@ -1,12 +1,11 @@
 -- Words of columns and words of units: rows behave alike by both, and are told apart by both.
 use Rattle.rx_spec.proofs.Prelude.{common_steps, ◌≡◌, ℕ, ◌<◌, List, [], ◌∷◌, map, refl, sym, ap, ◌∙◌, subst, ⊎_elim}
 use Rattle.rx_spec.proofs.Prelude.{arith, Contains, slice_index, IsWord, run, AreToldApart, Table}
-use Rattle.rx_spec.specs.Labels.{BehaveAlike}
+use Rattle.rx_minimize.proofs.Prelude.{AreMovesByColumn, BehaveAlike}
 use Rattle.lemmas_walks.proofs.Firsts.{Contains-cases, Contains-there, Contains-nil}
 use Rattle.lemmas_walks.proofs.Words.{run-nil, run-cons, run-within, IsWord-nil, IsWord-cons, IsWord-head, IsWord-tail}
 use Rattle.rx_refine.specs.Moves as moves
 use Rattle.rx_refine.specs.Moves.{Moves, label_after, row_after}
-use Rattle.rx_minimize.specs.Quotient.{AreMovesByColumn}
 
 module _ (t : Table) (m : Moves) (labels : List ℕ) (column_of : ℕ → ℕ)
     (nexts : (row unit : ℕ) → row < t.size → unit < 257 → t.machine.next row unit < t.size)

@@ -2,17 +2,13 @@
 use Rattle.rx_spec.proofs.Prelude.{common_steps, ◌≡◌, ℕ, ◌-◌, ◌*◌, ◌/◌, ◌<◌, ◌≤◌, ⊎_elim, List, [], length, map, refl}
 use Rattle.rx_spec.proofs.Prelude.{ap, sym, ◌∙◌, subst, arith, slice_index, concat, mul-div_cancel, cases_lt, le-ltb}
 use Rattle.rx_spec.proofs.Prelude.{get_or-map, length-map, pow_pos, max_id, Anchored, Table}
+use Rattle.rx_minimize.proofs.Prelude.{AreJoined, AreKindEnds, AreStarts, HasPatterns, IsQuotient, Layout, is_marked}
+use Rattle.rx_minimize.proofs.Prelude.{label_of_lists, lists_in, machine_of, match_lists, mode_place, row_count}
+use Rattle.rx_minimize.proofs.Prelude.{slices_from, special_ids, stride, table_of, with_patterns}
 use Rattle.rx_spec.specs.declared.Start.{Start}
-use Rattle.rx_dense.specs.Builder.{slices_from, with_patterns}
-use Rattle.rx_dense.specs.Layouts.{Layout, AreStarts, machine_of, mode_place, row_count, stride, table_of}
-use Rattle.rx_order.specs.ByKind.{lists_in}
-use Rattle.rx_order.specs.RowOrder.{AreJoined, is_marked, match_lists}
-use Rattle.rx_order.specs.SpecialIds.{AreKindEnds, special_ids}
 use Rattle.rx_order.proofs.KindRanges.{HasSpecials, ends_quit}
-use Rattle.rx_order.proofs.MatchRows.{HasPatterns, label_of_lists}
 use Rattle.rx_order.proofs.MatchRows as MatchRows
-use Rattle.rx_minimize.specs.Joined.{IsJoinedBy}
-use Rattle.rx_minimize.specs.Quotient.{IsQuotient}
+use Rattle.rx_minimize.proofs.JoinedRows.{IsJoinedBy}
 use Rattle.rx_minimize.proofs.KeptKinds.{IsKept, kind_at, kind_ends, match_kind}
 use Rattle.rx_minimize.proofs.KeptKinds as KeptKinds
 use Rattle.rx_minimize.proofs.Quotients.{AreNumbered, first_below, first_number, first_one, number_one, number_zero}

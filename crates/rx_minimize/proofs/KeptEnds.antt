@@ -2,11 +2,8 @@
 use Rattle.rx_spec.proofs.Prelude.{◌≡◌, ℕ, ◌+◌, ◌<◌, ◌≤◌, ◌&&◌, nat_le, nat_lt, List, length, slice_index, slice_set}
 use Rattle.rx_spec.proofs.Prelude.{sym, ap, ◌∙◌, ⊎_elim, arith, and-true, cases_eq, lt-ltb, nat_tests, get_or-set_other}
 use Rattle.rx_spec.proofs.Prelude.{get_or-set_same}
-use Rattle.std.proofs.lemmas.List.{length-set}
-use Rattle.rx_dense.specs.Layouts.{Layout, row_count}
-use Rattle.rx_order.specs.RowOrder.{IsOrdered, kind_of}
+use Rattle.rx_minimize.proofs.Prelude.{AreFirsts, IsOrdered, Layout, kind_of, length-set, row_count}
 use Rattle.rx_order.proofs.KindNumbers.{at_most}
-use Rattle.rx_minimize.specs.Blocks.{AreFirsts}
 
 -- the kind of the row that is kept at a place
 abbrev pub kept_kind : Layout → List ℕ → ℕ → ℕ

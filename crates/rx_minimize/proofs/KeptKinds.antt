@@ -1,14 +1,11 @@
 -- The rows that are kept: their kinds, and which of them match.
-use Rattle.rx_spec.proofs.Prelude.{◌≡◌, ℕ, zero, suc, ◌<◌, ◌≤◌, nat_le, nat_lt, List, length, slice_index, sym, ap, ◌∙◌}
-use Rattle.rx_spec.proofs.Prelude.{subst, arith, Table, is_match}
-use Rattle.rx_dense.specs.Layouts.{AreRows, Layout, row_count, table_of}
-use Rattle.rx_order.specs.ByKind.{HaveMatches}
-use Rattle.rx_order.specs.RowOrder.{IsInOrder, IsPlain, is_start_row, kind_of}
-use Rattle.rx_order.specs.SpecialIds.{AreKindEnds}
+use Rattle.rx_spec.proofs.Prelude.{common_steps, ◌≡◌, ℕ, zero, suc, ◌<◌, ◌≤◌, nat_le, nat_lt, List, length, slice_index}
+use Rattle.rx_spec.proofs.Prelude.{sym, ap, ◌∙◌, subst, arith, Table, is_match}
+use Rattle.rx_minimize.proofs.Prelude.{AreBlocks, AreFirsts, AreKindEnds, AreRenumbered, AreRows, HaveMatches}
+use Rattle.rx_minimize.proofs.Prelude.{IsInOrder, IsPlain, Layout, is_start_row, kind_of, low_match, row_count}
+use Rattle.rx_minimize.proofs.Prelude.{table_of}
 use Rattle.rx_order.proofs.KindNumbers.{between, high_above, kind_high, kind_matches}
 use Rattle.rx_order.proofs.KindRanges.{before_end, behind_end, ends_rise, is_between}
-use Rattle.rx_order.proofs.MatchRows.{low_match}
-use Rattle.rx_minimize.specs.Blocks.{AreBlocks, AreFirsts, AreRenumbered}
 use Rattle.rx_minimize.proofs.NewIds.{firsts_few}
 use Rattle.rx_minimize.proofs.Quotients.{AreNumbered, first_one, first_zero, two_firsts}
 
@@ -50,14 +47,7 @@ module _ {old : Layout} {blocks numbers firsts ends : List ℕ} (s : IsKept old 
     two = two_firsts numbered;
     dead = ap (kind_of old) (first_zero numbered);
     quit = ap (kind_of old) (first_one numbered);
-    others = λ place high h.
-        let row : ℕ = first place in
-        omega (
-          arith,
-          kind_high row (is_match before row) (before.is_accelerated row) (is_start_row old row)
-              (first_high place high h),
-          high_above (is_match before row) (before.is_accelerated row) (is_start_row old row),
-        );
+    others = λ place high h. grind (arith, common_steps, kind_high, before.is_accelerated, first_high, high_above);
     within = s.within;
     to_end = s.to_end;
   }

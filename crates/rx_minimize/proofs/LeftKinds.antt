@@ -3,9 +3,9 @@ use Rattle.rx_spec.proofs.Prelude.{common_steps, ◌≡◌, ℕ, ◌*◌, ◌/�
 use Rattle.rx_spec.proofs.Prelude.{true, false, List, length, refl, ap, ap₂, sym, ◌∙◌, subst, arith, slice_index}
 use Rattle.rx_spec.proofs.Prelude.{both_ways, list_any, Contains, mul-div_cancel, and_from, and_parts, cases_lt, le-ltb}
 use Rattle.rx_spec.proofs.Prelude.{lt-ltb, get_or-map, get_or_default, Contains-get_or, is_match, is_match_label}
-use Rattle.rx_dense.specs.Layouts.{Layout, row_count, stride}
-use Rattle.rx_dense.proofs.Rows.{quotient, row-below}
-use Rattle.rx_order.specs.RowOrder.{IsOrdered, is_marked, is_start_row, kind_by, kind_of}
+use Rattle.rx_minimize.proofs.Prelude.{IsOrdered, Layout, is_marked, is_start_row, kind_by, kind_of, row-below}
+use Rattle.rx_minimize.proofs.Prelude.{row_count, stride}
+use Rattle.rx_dense.proofs.Rows.{quotient}
 use Rattle.rx_order.proofs.KindNumbers.{high_kind, kind_accels, kind_alike, kind_high, kind_starts, none_in_range}
 use Rattle.rx_order.proofs.KindRanges.{accel_id, is_between}
 use Rattle.rx_order.proofs.KindRanges as KindRanges
@@ -56,10 +56,7 @@ module _ {old : Layout} {blocks numbers firsts ids ends : List ℕ} {lists : Lis
       ap is_match_label (ap (λ j. (before s).machine.label (first s j)) (sym is) ∙ label_first (numbered s) row low
       ∙ start_row_plain old s.kept.in_order.sound row e) in
       let kind : kind_of old row ≡ 6 =
-      kind_high row (is_match (before s) row) ((before s).is_accelerated row) (is_start_row old row) behind
-      ∙ ap (λ b. high_kind b ((before s).is_accelerated row) (is_start_row old row))
-      (ap is_match_label (start_row_plain old s.kept.in_order.sound row e))
-      ∙ ap₂ (λ (a b : Bool). high_kind false a b) (none_before row) e in
+      grind (arith, common_steps, kind_high, high_kind, start_row_plain, s.kept.in_order.sound, none_before) in
       let own : kind_of old (first s k) ≡ high_kind false false (is_start_row old (first s k)) =
       kind_high (first s k) (is_match (before s) (first s k)) ((before s).is_accelerated (first s k))
       (is_start_row old (first s k)) (first_high s.kept k high h)

@@ -1,3 +1,5 @@
+-- what proofs take from other modules
+pub mod Prelude
 -- words of units against words of columns
 pub mod ColumnWords
 -- what a table of blocks says
@@ -10,11 +12,9 @@ pub mod LabelLists
 pub mod Shaped
 -- a dense table as the refinement sees it
 pub mod ColumnMoves
--- rows that move down to their places
-pub mod MovedRows
 -- the ids that rows get
 pub mod NewIds
--- rows that are renamed, moved and cut off
+-- rows that are kept under other ids
 pub mod JoinedRows
 -- where the kinds of the rows that are left end
 pub mod KeptEnds

@@ -1,13 +1,12 @@
 -- What `minimize` leaves.
-use Rattle.rx_spec.proofs.Prelude.{common_steps, ◌≡◌, ℕ, ◌*◌, ◌<◌, ◌≤◌, if◌then◌else◌, List, [], length, get_or, refl}
-use Rattle.rx_spec.proofs.Prelude.{ap, sym, ◌∙◌, Some, subst, arith, concat, Contains, max_id, IsSound}
-use Rattle.rx_dense.specs.Layouts.{Layout, place_in_range, row_count, stride}
-use Rattle.rx_minimize.specs.Minimized.{AnyMode, IsMinimized}
+use Rattle.rx_spec.proofs.Prelude.{common_steps, ◌≡◌, ℕ, ◌<◌, ◌≤◌, List, [], length, refl, sym, ◌∙◌, Some, subst, arith}
+use Rattle.rx_spec.proofs.Prelude.{concat, Contains, max_id, IsSound}
+use Rattle.rx_minimize.proofs.Prelude.{AnyMode, AreNames, IsMinimized, Layout, is_sound, no_needles, reached, row_count}
+use Rattle.rx_minimize.proofs.Prelude.{same}
 use Rattle.rx_minimize.proofs.JoinedTables.{IsMinimizing, after, before, first, joined_lists, left, lists_are, numbered}
 use Rattle.rx_minimize.proofs.JoinedTables.{quotient, size}
 use Rattle.rx_minimize.proofs.LeftKinds.{marked, no_accels, none_accelerated, ordered, special_is, start_row_is}
 use Rattle.rx_minimize.proofs.Quotients.{first_below, names, quotient_apart}
-use Rattle.rx_order.proofs.Runs.{AreNames, is_sound, no_needles, reached, same}
 
 module _ {old : Layout} {blocks numbers firsts ids ends : List ℕ} {lists : List (List ℕ)} {new : Layout}
     (s : IsMinimizing old blocks numbers firsts ids ends lists new) where
@@ -27,12 +26,7 @@ module _ {old : Layout} {blocks numbers firsts ids ends : List ℕ} {lists : Lis
   sound =
       let was = s.kept.in_order.sound in
       is_sound other_names
-      (record {
-        is_table = was.is_table;
-        eoi_goes_on = was.eoi_goes_on;
-        starts_plain = was.starts_plain;
-        patterns = was.patterns;
-      })
+      (grind (arith, common_steps, was.is_table, was.eoi_goes_on, was.starts_plain, was.patterns))
       (record {
         universal_unanchored = no_universal;
         universal_anchored = no_universal_anchored;
@@ -41,8 +35,7 @@ module _ {old : Layout} {blocks numbers firsts ids ends : List ℕ} {lists : Lis
         pattern_len = refl;
       })
       (no_needles (after s) (λ row h. none_accelerated s row (in_firsts h)))
-      (λ row h e. ap (λ b. if b then get_or old.accels (place_in_range (left s) (left s).special.min_accel
-      (row * stride old)) [] else []) e)
+      (λ row h e. grind (arith, common_steps, old.accels, left))
       (λ row h. special_is s row (in_firsts h))
 
   pub minimized : IsMinimized old (left s)

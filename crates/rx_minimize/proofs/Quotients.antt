@@ -1,11 +1,8 @@
 -- What a table says in which the first row of each block is left.
-use Rattle.rx_spec.proofs.Prelude.{common_steps, ◌≡◌, ◌≢◌, ℕ, zero, suc, ◌<◌, ◌≤◌, List, [], ◌∷◌, length, sym, ap, ◌∙◌}
-use Rattle.rx_spec.proofs.Prelude.{arith, ⊎_elim, cases_eq, cases_lt, slice_index, Label, AreToldApart, Table, IsTable}
-use Rattle.rx_spec.specs.Labels.{BehaveAlike}
+use Rattle.rx_spec.proofs.Prelude.{common_steps, ◌≡◌, ◌≢◌, ℕ, ◌<◌, ◌≤◌, List, [], ◌∷◌, length, sym, ap, ◌∙◌, arith}
+use Rattle.rx_spec.proofs.Prelude.{⊎_elim, cases_eq, cases_lt, slice_index, Label, AreToldApart, Table, IsTable}
+use Rattle.rx_minimize.proofs.Prelude.{AreBlocks, AreNames, AreRenumbered, BehaveAlike, IsQuotient, apart}
 use Rattle.lemmas_walks.proofs.Words.{run-nil, run-cons, IsWord-nil, IsWord-cons}
-use Rattle.rx_order.proofs.Runs.{AreNames, apart}
-use Rattle.rx_minimize.specs.Blocks.{AreBlocks, AreRenumbered}
-use Rattle.rx_minimize.specs.Quotient.{IsQuotient}
 
 -- rows that behave alike have one label, and lead to rows that behave alike
 alike_label : (t : Table) (x y : ℕ) → BehaveAlike t x y → t.machine.label x ≡ t.machine.label y
@@ -86,9 +83,7 @@ module _ {t : Table} {blocks numbers firsts : List ℕ} (by : AreNumbered t bloc
   number_one = grind (arith, common_steps, number_below, one_row, row_below, quit_apart, number_zero, cases_lt)
 
   pub number_high : (row : ℕ) → 1 < number row → 1 < row
-  number_high zero h = absurd (omega (arith, number_zero, h))
-  number_high (suc zero) h = absurd (omega (arith, number_one, h))
-  number_high (suc (suc row)) h = omega arith
+  number_high row h = grind (arith, common_steps, cases_eq, cases_lt, number_zero, number_one)
 
   pub two_firsts : 2 ≤ length firsts
   two_firsts = omega (arith, number_one, number_below 1 one_row)

@@ -2,8 +2,7 @@
 use Rattle.rx_spec.proofs.Prelude.{common_steps, ◌≡◌, ◌≢◌, ℕ, ◌<◌, ◌≤◌, ◌+◌, ◌⊎◌, inl, inr, ⊎_elim, List, [], ◌∷◌, ◌++◌}
 use Rattle.rx_spec.proofs.Prelude.{length, length-append, refl, sym, ap, ◌∙◌, subst, arith, cases_eq, get_or_push}
 use Rattle.rx_spec.proofs.Prelude.{get_or_append_left, get_or-set_same, get_or-set_other, slice_index, slice_set}
-use Rattle.std.proofs.lemmas.List.{length-set}
-use Rattle.rx_minimize.specs.Blocks.{AreRenumbered}
+use Rattle.rx_minimize.proofs.Prelude.{AreRenumbered, length-set}
 
 -- the first row of a named block, by its name
 abbrev has_name : (blocks firsts : List ℕ) (name block : ℕ) → Type 0
@@ -44,10 +43,7 @@ module _ {blocks : List ℕ} {row : ℕ} {names numbers firsts : List ℕ} (h : 
     before x l = get_or_append_left numbers (name ∷ []) 0 x (omega (arith, h.count))
 
     name_below : name < length firsts
-    name_below =
-        ⊎_elim (λ (e : name ≡ length blocks). absurd (known e))
-        (λ (is : (name < length firsts) × (slice_index blocks (slice_index firsts name) ≡ block)). is.0)
-        (h.back block fits)
+    name_below = grind (arith, common_steps, h.back)
 
     pub known_named : AreNamed blocks (row + 1) names more firsts
     known_named = record {

@@ -1,7 +1,6 @@
 -- How many rows a table may have.
 use Rattle.rx_spec.proofs.Prelude.{◌≤◌, ◌<◌, ◌*◌, arith, ⊎_elim, cases_lt, pow_pos}
-use Rattle.rx_dense.specs.Layouts.{AreRows, Layout, row_count, stride}
-use Rattle.rx_dense.proofs.Rows.{IsRowId-row, id_few}
+use Rattle.rx_minimize.proofs.Prelude.{AreRows, IsRowId-row, Layout, id_few, row_count, stride}
 
 -- each row but the first has an id, which is at least the row's number
 pub rows_few : (l : Layout) → AreRows l → row_count l ≤ 2147483647

@@ -8,5 +8,3 @@ pub mod Blocks
 pub mod Partitioned
 -- a table that keeps the first row of each block
 pub mod Quotient
--- how it is made: rows that are moved, renamed and cut off
-pub mod Joined

@@ -7,7 +7,7 @@
 //!
 //! The steps: states get numbers for what they report (`labels`), the refinement finds the blocks of states that behave
 //! alike (`blocks`), blocks are numbered in the order of their first states (`numbering`), and the table keeps the
-//! first state of each block (`kinds`, `rows`). So dead and quit keep their places, and the states that
+//! first state of each block (`kinds` and `DFA::keep_states`). So dead and quit keep their places, and the states that
 //! are left keep their order. All memory is taken before the first change.
 #![tactic(auto)]
 
@@ -16,6 +16,5 @@ mod kinds;
 mod labels;
 mod minimize_rows;
 mod numbering;
-mod rows;
 
 pub use minimize_rows::{Minimizer, minimize};

@@ -8,7 +8,6 @@ ghost use Rattle.rx_minimize.specs.Partitioned.{IsPartitioned};
 use crate::blocks::blocks;
 use crate::kinds::ends;
 use crate::numbering::Numbering;
-use crate::rows::join_rows;
 use rx_dense::OwnedDFA;
 use rx_order::{patterns_of_rows, special};
 use std::alloc::{AllocError, Global};
@@ -40,7 +39,7 @@ fn join_blocks(alloc: Global, dfa: &mut OwnedDFA, blocks: &[u32]) -> Result<(), 
         Ok(()) => {}
         Err(_) => return Err(AllocError),
     }
-    join_rows(dfa, &numbering.firsts, &ids);
+    dfa.keep_states(&numbering.firsts, &ids);
     dfa.set_special(special);
     Ok(())
 }

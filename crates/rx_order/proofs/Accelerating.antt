@@ -1,55 +1,47 @@
 -- Accelerated tables: a table in order, with the rows from which a search may skip put beside each other.
 use Rattle.rx_spec.proofs.Prelude.{rules, ◌≡◌, ℕ, ◌+◌, ◌-◌, ◌*◌, ◌/◌, ◌<◌, ◌≤◌, ◌==◌, ◌&&◌, not, nat_lt, nat_le, Bool}
 use Rattle.rx_spec.proofs.Prelude.{true, false, if◌then◌else◌, List, [], length, map, slice_index, get_or, refl, ap}
-use Rattle.rx_spec.proofs.Prelude.{ap₂, sym, ◌∙◌, subst, ⊎_elim, arith, common_steps, concat, range_with_len}
-use Rattle.rx_spec.proofs.Prelude.{IsPermutation, and-false, and-true, and_parts, cases_eq, cases_lt, eq-eqb}
-use Rattle.rx_spec.proofs.Prelude.{false≢true, le-ltb, leb-true, lt-ltb, ltb-true, ne_eqb, get_or-map-range_with_len}
-use Rattle.rx_spec.proofs.Prelude.{length-map-range_with_len, max_id, IsSound, Table, is_match, leaving}
-use Rattle.lemmas_tables.proofs.Filters.{every_in_range, filter_alike}
-use Rattle.rx_dense.specs.Builder.{with_patterns}
-use Rattle.rx_dense.specs.Layouts.{Layout, AreRows, AreStarts, machine_of, place_in_range, row_count, stride, table_of}
+use Rattle.rx_spec.proofs.Prelude.{ap₂, sym, ◌∙◌, subst, ⊎_elim, arith, common_steps, concat, range_with_len, and-false}
+use Rattle.rx_spec.proofs.Prelude.{and-true, and_parts, cases_lt, eq-eqb, false≢true, le-ltb, leb-true, lt-ltb}
+use Rattle.rx_spec.proofs.Prelude.{ltb-true, get_or-map-range_with_len, length-map-range_with_len, max_id, IsSound}
+use Rattle.rx_spec.proofs.Prelude.{is_match, leaving}
+use Rattle.rx_order.proofs.Prelude.{IsAccelerated, IsInOrder, IsPermuted, Layout, Special, accel_count, are_needles}
+use Rattle.rx_order.proofs.Prelude.{every_in_range, filter_alike, is_marked, is_skippable, is_start_id, is_start_row}
+use Rattle.rx_order.proofs.Prelude.{leaving_of, lists_in, machine_of, place_in_range, quotient, row-below, row_count}
+use Rattle.rx_order.proofs.Prelude.{special_ids, stride, table_of, with_patterns}
 use Rattle.rx_dense.specs.Layouts.{IsRowId}
-use Rattle.rx_dense.specs.declared.special.Special.{Special}
-use Rattle.rx_dense.proofs.Shaped.{rows_kept, starts_kept}
-use Rattle.rx_order.specs.ByKind.{AreByKind, AreKinds, leaving_of, lists_in}
-use Rattle.rx_order.specs.Moved.{IsReordered}
-use Rattle.rx_order.specs.Ordering.{IsAccelerated}
-use Rattle.rx_order.specs.RowOrder.{IsInOrder, IsPlain, accel_count, are_needles, is_marked, is_skippable, is_start_row}
-use Rattle.rx_order.specs.SpecialIds.{special_ids}
 use Rattle.rx_order.proofs.Leaving.{leaving_is}
-use Rattle.rx_order.proofs.MarkedRows.{match_starts}
 use Rattle.rx_order.proofs.MatchRows.{HasPatterns, joined, label_of_lists, lists_are, lists_count, low_match}
 use Rattle.rx_order.proofs.MatchRows.{place_from, range_count}
 use Rattle.rx_order.proofs.KindRanges.{end_high, ends_quit, from_end, is_between}
-use Rattle.rx_order.proofs.Ordered.{IsArranged, Sorting, accel_id, accel_is, ends_few, kind_ends, kind_at, low_kind}
-use Rattle.rx_order.proofs.Ordered.{low_row, number, ordered, permuted, row_at, kind_is, quit, size_same, some}
-use Rattle.rx_order.proofs.Ordered.{special_is, stride_same, to_end, specials, start_is, start_row_is}
-use Rattle.rx_order.proofs.KindNumbers.{kind_matches, at_most}
-use Rattle.rx_order.proofs.Reordered.{IsBefore, next_below, number_below, number_of_place, numbers, row_at_number}
-use Rattle.rx_order.proofs.Reordered.{row_of_place, stride_is}
-use Rattle.rx_dense.specs.Specials.{is_start_id}
-use Rattle.rx_dense.proofs.Rows.{quotient, row-below}
-use Rattle.rx_order.specs.Permuted.{IsPermuted}
+use Rattle.rx_order.proofs.Ordered.{IsArranged, Sorting, accel_id, accel_is, kind_ends, kind_at, low_kind, low_row}
+use Rattle.rx_order.proofs.Ordered.{number, ordered, permuted, row_at, kind_is, quit, size_same, some, special_is}
+use Rattle.rx_order.proofs.Ordered.{stride_same, to_end, specials, start_is, start_row_is, IsArranging, patterns_given}
+use Rattle.rx_order.proofs.Ordered as Ordered
+use Rattle.rx_order.proofs.KindNumbers.{at_most, kind_matches, same_test}
+use Rattle.rx_order.proofs.Reordered.{next_below, number_below, number_of_place, numbers, row_at_number, row_of_place}
 use Rattle.rx_order.proofs.Runs.{HasNeedles, permuted_moved}
 use Rattle.rx_order.proofs.Sound.{frame, sound}
 use Rattle.rx_order.proofs.Unskipped.{low_none}
 
+-- by the kinds of its rows, with those accelerated from which a search may skip
+abbrev pub sorting : (old : Layout) (kinds rows ends : List ℕ) → Sorting
+sorting old kinds rows ends = record {
+  kinds = kinds;
+  rows = rows;
+  ends = ends;
+  marked = is_marked old;
+  matches = is_match (table_of old);
+  accelerated = λ row. are_needles (leaving_of (table_of old) row);
+}
+
 -- what the call learns of a table, and what its calls leave
 pub record IsAccelerating (old : Layout) (kinds rows ends : List ℕ) (next new m : Layout) : Type 0 where
   pub in_order : IsInOrder old
-  pub plain : IsPlain old
-  pub are_rows : AreRows old
-  pub are_starts : AreStarts old
-  pub kinds_are : AreKinds old (is_match (table_of old)) (λ row. are_needles (leaving_of (table_of old) row)) kinds
-  pub by_kind : AreByKind kinds rows ends
   pub few : length (concat (lists_in old rows ends)) ≤ max_id
-  pub next_is : next ≡ with_patterns old (lists_in old rows ends)
-  pub reordered : IsReordered rows next new
-  pub set : m ≡ record new {
-    accels = map (λ place. leaving_of (table_of old) (slice_index rows place))
-        (range_with_len (slice_index ends 2) (slice_index ends 5 - slice_index ends 2));
-    special = special_ids (stride new) ends (is_marked old);
-  }
+  pub arranging : IsArranging (sorting old kinds rows ends) old (lists_in old rows ends) next new m
+  pub accels : m.accels ≡ map (λ place. leaving_of (table_of old) (slice_index rows place))
+      (range_with_len (slice_index ends 2) (slice_index ends 5 - slice_index ends 2))
 
 -- ---- filters
 
@@ -64,81 +56,16 @@ module _ {old : Layout} {kinds rows ends : List ℕ} {next new m : Layout}
   abbrev l : Layout
   l = with_patterns old lists
 
-  abbrev t : Table
-  t = table_of old
-
-  abbrev pub sorting : Sorting
-  sorting = record {
-    kinds = kinds;
-    rows = rows;
-    ends = ends;
-    marked = is_marked old;
-    matches = is_match (table_of old);
-    accelerated = λ row. are_needles (leaving_of (table_of old) row);
-  }
-
-  reordered : IsReordered rows l new
-  reordered = subst (λ k. IsReordered rows k new) s.next_is s.reordered
-
-  before : IsBefore l rows
-  before = record {
-    are_rows = rows_kept old l refl refl refl s.are_rows;
-    are_starts = starts_kept old l refl (omega arith) refl refl refl s.are_starts;
-    order = subst (λ n. IsPermutation (range_with_len 0 n) rows) s.kinds_are.count s.by_kind.permutation;
-  }
-
-  accels_list : List (List ℕ)
-  accels_list = map (λ place. leaving_of (table_of old) (slice_index rows place))
-      (range_with_len (slice_index ends 2) (slice_index ends 5 - slice_index ends 2))
-
-  set_is : m ≡ record new { accels = accels_list; special = special_ids (stride l) ends (is_marked old) }
-  unfolding accels_list
-  set_is =
-      s.set
-      ∙ ap (λ w. record new {
-        accels = map (λ place. leaving_of (table_of old) (slice_index rows place))
-            (range_with_len (slice_index ends 2) (slice_index ends 5 - slice_index ends 2));
-        special = special_ids w ends (is_marked old);
-      }) (stride_is reordered before)
-
-  -- ---- no search starts in a match row
-
   sound_old : IsSound (table_of old)
   sound_old = s.in_order.sound
 
-  pub arranged : IsArranged sorting l new m
-  arranged = record {
-    before = before;
-    reordered = reordered;
-    kinds = record { count = s.kinds_are.count; kinds_are = s.kinds_are.kinds_are };
-    by_kind = s.by_kind;
-    plain = match_starts old sound_old;
-    rest =
-        subst (λ (k : Layout). k ≡ record new {
-          slices = k.slices;
-          pattern_ids = k.pattern_ids;
-          special = special_ids (stride l) ends (is_marked old);
-          accels = k.accels;
-        }) (sym set_is) refl;
-  }
-
-  pub accelerating_ends : (kind : ℕ) → kind < 8 → slice_index ends kind * stride new ≤ max_id + stride new
-  accelerating_ends kind h =
-      subst (λ w. slice_index ends kind * w ≤ max_id + w) (sym (stride_is reordered before))
-      (ends_few old kinds rows ends s.by_kind s.kinds_are.count s.are_rows kind h)
+  arranged : IsArranged (sorting old kinds rows ends) l new m
+  arranged = Ordered.arranged s.arranging
 
   -- ---- the patterns
 
-  has_patterns : HasPatterns sorting.ends m lists
-  has_patterns = record {
-    count = lists_count old rows ends (ends_quit (kind_ends arranged));
-    slices =
-        ap (λ (k : Layout). k.slices) set_is ∙ ap (λ (k : Layout). k.slices) reordered.is
-        ∙ ap (λ (k : Layout). k.slices) reordered.moved.rest;
-    pattern_ids =
-        ap (λ (k : Layout). k.pattern_ids) set_is ∙ ap (λ (k : Layout). k.pattern_ids) reordered.is
-        ∙ ap (λ (k : Layout). k.pattern_ids) reordered.moved.rest;
-  }
+  has_patterns : HasPatterns ends m lists
+  has_patterns = patterns_given s.arranging (lists_count old rows ends (ends_quit (kind_ends arranged)))
 
   -- ---- what each row tells
 
@@ -168,30 +95,22 @@ module _ {old : Layout} {kinds rows ends : List ℕ} {next new m : Layout}
       (λ b. not ((machine_of old).next (row_at arranged place) b == row_at arranged place)) (range_with_len 0 256)
       (every_in_range (λ b. not ((machine_of m).next place b == place)
       ≡ not ((machine_of old).next (row_at arranged place) b == row_at arranged place)) 0 256
-      (λ b low high. ap not (same_test b (omega (arith, high)))))
+      (λ b low high. ap not (same_next b (omega (arith, high)))))
     where
-      row : ℕ
-      row = row_at arranged place
-
-      same_test : (b : ℕ) → b < 257
+      same_next : (b : ℕ) → b < 257
           → ((machine_of m).next place b == place)
           ≡ ((machine_of old).next (row_at arranged place) b == row_at arranged place)
-      same_test b u =
+      same_next b u =
           let own = row_of_place arranged.reordered arranged.before place h in
           let back = number_of_place arranged.reordered arranged.before place h in
           let to = (machine_of old).next (row_at arranged place) b in
           let below = next_below arranged.reordered arranged.before (row_at arranged place) b own u in
           let next : (machine_of m).next place b ≡ number arranged to =
           ap (λ p. (machine_of m).next p b) (sym back) ∙ (permuted arranged).nexts (row_at arranged place) b own u in
-          ⊎_elim
-          (λ (e : to ≡ row_at arranged place).
-          eq-eqb ((machine_of m).next place b) place (next ∙ ap (number arranged) e ∙ back)
-          ∙ sym (eq-eqb to (row_at arranged place) e))
-          (λ (ne : to ≡ row_at arranged place → ⊥).
-          let other : (machine_of m).next place b ≡ place → ⊥ = λ e.
-          ne (sym (row_at_number arranged.reordered arranged.before to below) ∙ ap (row_at arranged) (sym next ∙ e)) in
-          ne_eqb ((machine_of m).next place b) place other ∙ sym (ne_eqb to (row_at arranged place) ne))
-          (cases_eq to (row_at arranged place))
+          same_test
+          (λ e.
+          sym (row_at_number arranged.reordered arranged.before to below) ∙ ap (row_at arranged) (sym next ∙ e))
+          (λ e. next ∙ ap (number arranged) e ∙ back)
 
   accelerated : (place : ℕ) → place < row_count m
       → (table_of m).is_accelerated place ≡ is_skippable (table_of m) place
@@ -214,12 +133,8 @@ module _ {old : Layout} {kinds rows ends : List ℕ} {next new m : Layout}
 
   -- ---- needles
 
-  accels_are : m.accels ≡ accels_list
-  accels_are = ap (λ (k : Layout). k.accels) set_is
-
   skips : (place : ℕ) → place < row_count m → (table_of m).is_accelerated place ≡ true
       → (table_of m).needles place ≡ leaving (table_of m) place
-  unfolding accels_list
   skips place b e =
       let h : place < row_count old = omega (arith, size_same arranged) in
       let kinds_in = and_parts (nat_lt 2 (kind_at arranged place)) (nat_le (kind_at arranged place) 5)
@@ -237,7 +152,7 @@ module _ {old : Layout} {kinds rows ends : List ℕ} {next new m : Layout}
       ∙ place_from (slice_index ends 2) place (stride old) (some arranged) low in
       let whole : slice_index ends 2 + (place - slice_index ends 2) ≡ place = omega arith in
       ap (λ b. if b then get_or m.accels (place_in_range m m.special.min_accel (place * stride m)) [] else []) e
-      ∙ ap₂ (λ (accels : List (List ℕ)) (i : ℕ). get_or accels i []) accels_are at
+      ∙ ap₂ (λ (accels : List (List ℕ)) (i : ℕ). get_or accels i []) s.accels at
       ∙ get_or-map-range_with_len (λ place. leaving_of (table_of old) (slice_index rows place)) (slice_index ends 2)
       (slice_index ends 5 - slice_index ends 2) (place - slice_index ends 2) place [] (omega arith) whole
       ∙ leaving_is (table_of old) (row_at arranged place) ∙ sym (leaving_same place h)
@@ -260,12 +175,11 @@ module _ {old : Layout} {kinds rows ends : List ℕ} {next new m : Layout}
 
   -- there are as many lists of needles as there are accelerated rows
   counted : length m.accels ≡ accel_count m
-  unfolding accels_list
   counted =
       let first : ℕ = slice_index ends 2 in
       let last : ℕ = slice_index ends 5 in
       let high = end_high (kind_ends arranged) 2 (omega arith) (omega arith) in
-      ap length accels_are
+      ap length s.accels
       ∙ length-map-range_with_len (λ place. leaving_of (table_of old) (slice_index rows place)) first (last - first)
       ∙ sym (ap₂ (λ (x : Special) (w : ℕ). if x.min_accel == 0 then 0 else (x.max_accel - x.min_accel) / w + 1)
       (special_is arranged) (stride_same arranged)

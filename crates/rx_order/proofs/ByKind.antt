@@ -3,11 +3,8 @@ use Rattle.rx_spec.proofs.Prelude.{rules, ◌≡◌, ℕ, ◌+◌, ◌*◌, ◌^
 use Rattle.rx_spec.proofs.Prelude.{get_or, All, refl, ap, sym, ◌∙◌, subst, arith, nat_le, true, false, common_steps}
 use Rattle.rx_spec.proofs.Prelude.{range_with_len, IsPermutation, get_or-map, length-map, All-cons, All-get_or, All-nil}
 use Rattle.rx_spec.proofs.Prelude.{leb-false, leb-true, length-map-range_with_len, All-permutation, length_permutation}
-use Rattle.std.specs.List.Sorted.{IsNonDecreasingBy, IsPartitionedBy, IsPartitionPoint}
-use Rattle.std.proofs.lemmas.List.Sorted.{IsPermutation-map}
-use Rattle.rx_order.specs.ByKind.{AreByKind, AreRanked}
-use Rattle.rx_order.specs.Ranks.{ranked_row}
-use Rattle.rx_order.specs.declared.order.Ranked.{Ranked}
+use Rattle.rx_order.proofs.Prelude.{AreByKind, AreRanked, IsNonDecreasingBy, IsPartitionPoint, IsPartitionedBy}
+use Rattle.rx_order.proofs.Prelude.{IsPermutation-map, Ranked, ranked_row}
 
 none : Ranked
 none = record { kind = 0; rank = 0; number = 0 }

@@ -2,10 +2,9 @@
 use Rattle.rx_spec.proofs.Prelude.{rules, ◌≡◌, ℕ, ◌+◌, ◌-◌, ◌*◌, ◌/◌, ◌%◌, ◌<◌, ◌≤◌, ◌^◌, ◌++◌, [], ◌∷◌, List, All}
 use Rattle.rx_spec.proofs.Prelude.{Some, length, slice_index, slice_set, arith, common_steps, mod-eq_of_lt, cases_eq}
 use Rattle.rx_spec.proofs.Prelude.{get_or-set_other, get_or-range_with_len, pow_pos, range_with_len}
+use Rattle.rx_order.proofs.Prelude.{Layout, alphabet_len, multiple_below, row-below, row_count, stride, stride_few}
 use Rattle.std.proofs.lemmas.List.Elements.{All-pop}
-use Rattle.rx_base.specs.ByteClasses.{alphabet_len}
-use Rattle.rx_dense.specs.Layouts.{Layout, AreRows, row_count, stride}
-use Rattle.rx_dense.proofs.Rows.{multiple_below, row-below, stride_few}
+use Rattle.rx_dense.specs.Layouts.{AreRows}
 
 -- a row from which the walk goes on, with how many of its columns are left
 abbrev pub IsLeft : Layout → ℕ × ℕ → Type 0

@@ -5,14 +5,13 @@ use Rattle.rx_spec.proofs.Prelude.{range_with_len, swap, IsPermutation, cases_eq
 use Rattle.rx_spec.proofs.Prelude.{get_or_default, map-id, map-set, All-from_get_or, All-get_or, get_or-range_with_len}
 use Rattle.rx_spec.proofs.Prelude.{length-range_with_len, map-range_with_len_more, All-permutation, length_permutation}
 use Rattle.rx_spec.proofs.Prelude.{position_or_len_is}
-use Rattle.std.proofs.lemmas.List.Sorted.{Contains-permutation}
+use Rattle.rx_order.proofs.Prelude.{Contains-permutation}
 use Rattle.std.proofs.lemmas.Map.Keys.{IsDistinct-IsPermutation, IsDistinct-from_apart, apart_from_distinct}
 
 -- images change places with what they are images of
 pub map-swap : {X Y : Type 0} (f : X → Y) (xs : List X) (i j : ℕ) → i < length xs → j < length xs
     → map f (swap xs i j) ≡ swap (map f xs) i j
-map-swap f [] i j hi hj = refl
-map-swap f (d ∷ xs) i j hi hj = grind (arith, common_steps, map-set, get_or-map)
+map-swap f xs i j hi hj = grind (arith, common_steps, map-set, get_or-map)
 
 -- one number more
 pub range_more : (n : ℕ) → range_with_len 0 (n + 1) ≡ range_with_len 0 n ++ n ∷ []

@@ -2,15 +2,15 @@
 use Rattle.rx_spec.proofs.Prelude.{rules, ◌≡◌, ◌≢◌, ℕ, zero, suc, ◌+◌, ◌-◌, ◌*◌, ◌<◌, ◌≤◌, ◌∙◌, List, slice_index, refl}
 use Rattle.rx_spec.proofs.Prelude.{ap, sym, subst, ⊎_elim, arith, common_steps, range_with_len, IsPermutation, cases_eq}
 use Rattle.rx_spec.proofs.Prelude.{lt-ltb, map-id, fill_by_all, All-from_get_or}
-use Rattle.std.specs.List.Sorted.{IsNonDecreasing}
+use Rattle.rx_order.proofs.Prelude.{AreStarts, AreUnmoved, IsMachineRenamed, IsNonDecreasing, IsReordered, IsRowId-row}
+use Rattle.rx_order.proofs.Prelude.{Layout, column, column_within, ids_of, quotient, renamed_id, row-below, row_count}
+use Rattle.rx_order.proofs.Prelude.{start_is_row, stride}
 use Rattle.std.proofs.lemmas.List.Folds.{map_fixed}
 use Rattle.lemmas_tables.proofs.Ids.{id_of-dense}
 use Rattle.rx_order.proofs.ExchangedRows.{count_of, places_apart, row_below}
-use Rattle.rx_dense.specs.Builder.{IsMachineRenamed, renamed, renamed_id}
-use Rattle.rx_dense.specs.Layouts.{AreRows, AreStarts, IsRowId, Layout, column, ids_of, row_count, stride}
+use Rattle.rx_dense.specs.Builder.{renamed}
+use Rattle.rx_dense.specs.Layouts.{AreRows, IsRowId}
 use Rattle.rx_dense.proofs.Renaming.{same_lists, words_renamed}
-use Rattle.rx_dense.proofs.Rows.{IsRowId-row, column_within, quotient, row-below, start_is_row}
-use Rattle.rx_order.specs.Moved.{AreUnmoved, IsReordered}
 use Rattle.rx_order.proofs.Moved.{unmoved}
 
 -- The numbers below n in an order that does not fall are in their places.

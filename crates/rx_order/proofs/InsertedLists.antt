@@ -4,9 +4,8 @@ use Rattle.rx_spec.proofs.Prelude.{refl, ap, ap₂, sym, subst, arith, keys, ran
 use Rattle.rx_spec.proofs.Prelude.{vec_items, le-ltb, ne_eqb, All-from_get_or, All-head, All-tail}
 use Rattle.rx_spec.proofs.Prelude.{get_or-map-range_with_len, length-map-range_with_len, map-range_with_len_more}
 use Rattle.rx_spec.proofs.Prelude.{row_fits}
+use Rattle.rx_order.proofs.Prelude.{Matches, pattern_lists}
 use Rattle.std.specs.BTreeMap.{insert_entry}
-use Rattle.rx_dense.specs.Builder.{pattern_lists}
-use Rattle.rx_order.specs.Ordering.{Matches}
 
 pub inserted_last : {X : Type 0} (entries : List (ℕ × X)) (k : ℕ) (v : X) → All (λ key. key < k) (keys_of entries)
     → insert_entry nat_cmp entries k v ≡ entries ++ (k, v) ∷ []

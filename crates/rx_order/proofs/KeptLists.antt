@@ -5,14 +5,12 @@ use Rattle.rx_spec.proofs.Prelude.{◌∙◌, subst, ⊎_elim, arith, concat, po
 use Rattle.rx_spec.proofs.Prelude.{cases_lt, eq-eqb, false≢true, leb-true, ltb-true, ne_eqb, fill_by_all}
 use Rattle.rx_spec.proofs.Prelude.{get_or-map-range_with_len, length-map-range_with_len, mul-le, pow_pos, row_fits}
 use Rattle.rx_spec.proofs.Prelude.{max_id, Label, is_match}
-use Rattle.rx_search.specs.Labels.{label_patterns, patterns_of}
-use Rattle.rx_dense.specs.Builder.{slices_from, with_patterns}
-use Rattle.rx_dense.specs.Layouts.{Layout, IsRowId, patterns_at, place_in_range, row_count, stride, table_of}
-use Rattle.rx_dense.specs.Specials.{is_in_range, is_match_id, is_quit_id}
-use Rattle.rx_dense.proofs.Rows.{quotient, row-below}
+use Rattle.rx_order.proofs.Prelude.{AreJoined, AreSkippable, IsInOrder, IsRange, Layout, are_needles, is_in_range}
+use Rattle.rx_order.proofs.Prelude.{is_match_id, is_quit_id, is_start_row, label_patterns, leaving_of, lists_in}
+use Rattle.rx_order.proofs.Prelude.{match_count, match_lists, patterns_at, patterns_of, place_in_range, quotient}
+use Rattle.rx_order.proofs.Prelude.{row-below, row_count, slices_from, stride, table_of, with_patterns}
+use Rattle.rx_dense.specs.Layouts.{IsRowId}
 use Rattle.rx_order.proofs.ExchangedRows.{row_at_place}
-use Rattle.rx_order.specs.ByKind.{AreSkippable, leaving_of, lists_in}
-use Rattle.rx_order.specs.RowOrder.{AreJoined, IsInOrder, IsRange, are_needles, is_start_row, match_count, match_lists}
 use Rattle.rx_order.proofs.KindNumbers.{at_most, high_kind, high_matches, kind_high, none_in_range}
 use Rattle.rx_order.proofs.KindRanges.{match_by_id}
 use Rattle.rx_order.proofs.MatchRows.{place_from}

@@ -1,7 +1,8 @@
 -- What is exchanged or renamed stays rows of ids of rows.
 use Rattle.rx_spec.proofs.Prelude.{◌≡◌, ℕ, ◌<◌, List, length, map, refl, arith, All, swap, length-map, length-swap}
 use Rattle.rx_spec.proofs.Prelude.{All-map, All-weaker, All-permutation, IsPermutation-swap}
-use Rattle.rx_order.specs.Transitions.{Transitions, AreRows, IsRowId, with_ids, with_swapped}
+use Rattle.rx_order.proofs.Prelude.{Transitions, with_ids, with_swapped}
+use Rattle.rx_order.specs.Transitions.{AreRows, IsRowId}
 
 -- the ids of as many rows, as far apart
 id_of_row : (t u : Transitions) → length u.rows ≡ length t.rows → u.stride2 ≡ t.stride2 → (id : ℕ) → IsRowId t id

@@ -1,10 +1,9 @@
 -- Kinds of rows as numbers, and ranges of ids.
-use Rattle.rx_spec.proofs.Prelude.{common_steps, ◌≡◌, ℕ, ◌-◌, ◌*◌, ◌<◌, ◌≤◌, ◌&&◌, nat_lt, nat_le, Bool, true, false}
-use Rattle.rx_spec.proofs.Prelude.{if◌then◌else◌, List, refl, ap, sym, ◌∙◌, ⊎_elim, arith, cases_eq, cases_lt, ne_eqb}
-use Rattle.rx_spec.proofs.Prelude.{lt-ltb, le-ltb, nat_tests, mul-le, row_fits, Label, is_match_label}
-use Rattle.rx_dense.specs.Specials.{is_in_range}
-use Rattle.rx_order.specs.RowOrder.{kind_by}
-use Rattle.rx_order.specs.SpecialIds.{first_id, last_id}
+use Rattle.std.proofs.lemmas.Bool.{cases_Bool}
+use Rattle.rx_spec.proofs.Prelude.{common_steps, ◌≡◌, ℕ, ◌-◌, ◌*◌, ◌<◌, ◌≤◌, ◌==◌, ◌&&◌, nat_lt, nat_le, Bool, true}
+use Rattle.rx_spec.proofs.Prelude.{if◌then◌else◌, List, ap, sym, ◌∙◌, ⊎_elim, arith, cases_eq, cases_lt, eq-eqb, ne_eqb}
+use Rattle.rx_spec.proofs.Prelude.{lt-ltb, le-ltb, nat_tests, mul-le, row_fits, Label, is_match_label, false}
+use Rattle.rx_order.proofs.Prelude.{first_id, is_in_range, kind_by, last_id}
 
 -- ---- tests
 
@@ -16,6 +15,10 @@ over a b h = grind (arith, nat_tests)
 
 pub between : (from to kind : ℕ) → from < kind → kind ≤ to → (nat_lt from kind && nat_le kind to) ≡ true
 between from to kind low high = grind (arith, nat_tests)
+
+-- numbers that are equal where two others are
+pub same_test : {a b c d : ℕ} → (a ≡ b → c ≡ d) → (c ≡ d → a ≡ b) → (a == b) ≡ (c == d)
+same_test {a} {b} {c} {d} there back = grind (arith, common_steps, eq-eqb, ne_eqb, cases_eq)
 
 -- ---- ranges of ids
 
@@ -49,20 +52,10 @@ pub kind_high : (row : ℕ) (m a s : Bool) → 1 < row → kind_by row m a s ≡
 kind_high row m a s h = grind (arith, common_steps, ne_eqb)
 
 pub high_above : (m a s : Bool) → 2 ≤ high_kind m a s
-high_above true true s = omega arith
-high_above true false s = omega arith
-high_above false true true = omega arith
-high_above false true false = omega arith
-high_above false false true = omega arith
-high_above false false false = omega arith
+high_above m a s = grind (arith, common_steps, cases_Bool)
 
 high_below : (m a s : Bool) → high_kind m a s < 8
-high_below true true s = omega arith
-high_below true false s = omega arith
-high_below false true true = omega arith
-high_below false true false = omega arith
-high_below false false true = omega arith
-high_below false false false = omega arith
+high_below m a s = grind (arith, common_steps, cases_Bool)
 
 pub kind_small : (row : ℕ) (m a s : Bool) → kind_by row m a s < 8
 kind_small row m a s = grind (arith, common_steps, kind_high, high_below, cases_eq, cases_lt)
@@ -87,29 +80,14 @@ kind_alike x y m a s low high =
 
 -- which kinds are which rows
 pub high_matches : (m a s : Bool) → (nat_lt 1 (high_kind m a s) && nat_le (high_kind m a s) 3) ≡ m
-high_matches true true s = refl
-high_matches true false s = refl
-high_matches false true true = refl
-high_matches false true false = refl
-high_matches false false true = refl
-high_matches false false false = refl
+high_matches m a s = grind (arith, common_steps, cases_Bool)
 
 pub high_accels : (m a s : Bool) → (nat_lt 2 (high_kind m a s) && nat_le (high_kind m a s) 5) ≡ a
-high_accels true true s = refl
-high_accels true false s = refl
-high_accels false true true = refl
-high_accels false true false = refl
-high_accels false false true = refl
-high_accels false false false = refl
+high_accels m a s = grind (arith, common_steps, cases_Bool)
 
 pub high_starts : (m a s : Bool) → (m ≡ true → s ≡ false)
     → (nat_lt 4 (high_kind m a s) && nat_le (high_kind m a s) 6) ≡ s
-high_starts true true s plain = sym (plain refl)
-high_starts true false s plain = sym (plain refl)
-high_starts false true true plain = refl
-high_starts false true false plain = refl
-high_starts false false true plain = refl
-high_starts false false false plain = refl
+high_starts m a s plain = grind (arith, common_steps, cases_Bool)
 
 -- so with the kinds of all rows, where dead and quit don't match and aren't accelerated
 module _ (row : ℕ) (m a s : Bool) where
@@ -131,6 +109,4 @@ module _ (row : ℕ) (m a s : Bool) where
 -- a label is that of a match row where its id is in the range
 pub label_match : (m q : Bool) (ks : List ℕ)
     → is_match_label (if m then Label.Matches ks else (if q then Label.Quits else Label.Plain)) ≡ m
-label_match true q ks = refl
-label_match false true ks = refl
-label_match false false ks = refl
+label_match m q ks = grind (arith, common_steps, cases_Bool)

@@ -1,14 +1,13 @@
 -- Special ids of a table whose rows lie by their kinds: tests of ids are tests of kinds.
-use Rattle.rx_spec.proofs.Prelude.{rules, ◌≡◌, ℕ, zero, suc, ◌-◌, ◌*◌, ◌<◌, ◌≤◌, ◌==◌, ◌&&◌, ◌||◌, not, nat_lt, nat_le}
-use Rattle.rx_spec.proofs.Prelude.{Bool, true, false, if◌then◌else◌, List, slice_index, refl, ap, ap₂, sym, ◌∙◌, subst}
-use Rattle.rx_spec.proofs.Prelude.{⊎_elim, inl, inr, arith, common_steps, max, cases_eq, cases_lt, false≢true, le-ltb}
-use Rattle.rx_spec.proofs.Prelude.{lt-ltb, ne_eqb, nat_tests, mul-le, pow_pos, row_fits, is_match}
-use Rattle.rx_dense.specs.Layouts.{Layout, row_count, stride, table_of}
-use Rattle.rx_dense.specs.Specials.{greatest, is_accel_id, is_in_range, is_match_id, is_start_id}
-use Rattle.rx_dense.specs.declared.special.Special.{Special}
-use Rattle.rx_dense.proofs.Rows.{IsRowId-row}
-use Rattle.rx_order.specs.RowOrder.{IsOrdered, IsRange, is_start_row, kind_of}
-use Rattle.rx_order.specs.SpecialIds.{AreKindEnds, first_id, last_id, special_ids}
+use Rattle.std.proofs.lemmas.Bool.{cases_Bool}
+use Rattle.rx_spec.proofs.Prelude.{rules, ◌≡◌, ℕ, ◌-◌, ◌*◌, ◌<◌, ◌≤◌, ◌==◌, ◌&&◌, ◌||◌, not, nat_lt, nat_le, Bool, true}
+use Rattle.rx_spec.proofs.Prelude.{false, if◌then◌else◌, List, slice_index, refl, ap, ap₂, sym, ◌∙◌, subst, ⊎_elim, inl}
+use Rattle.rx_spec.proofs.Prelude.{inr, arith, common_steps, max, cases_eq, cases_lt, false≢true, le-ltb, lt-ltb}
+use Rattle.rx_spec.proofs.Prelude.{ne_eqb, nat_tests, mul-le, pow_pos, row_fits, is_match}
+use Rattle.rx_order.proofs.Prelude.{AreKindEnds, IsRange, IsRowId-row, Layout, Special, first_id, greatest, is_accel_id}
+use Rattle.rx_order.proofs.Prelude.{is_in_range, is_match_id, is_start_id, is_start_row, kind_of, last_id, row_count}
+use Rattle.rx_order.proofs.Prelude.{special_ids, stride, table_of}
+use Rattle.rx_order.specs.RowOrder.{IsOrdered}
 use Rattle.rx_order.proofs.KindNumbers.{at_most, between, in_ids, kind_small, label_match, none_in_range, over}
 
 -- a kind between two
@@ -187,12 +186,10 @@ module _ {m : Layout} {marked : Bool} {kind_at : ℕ → ℕ} {ends : List ℕ} 
       ∙ has.are.to_end row kind h small ∙ by_mark marked
     where
       high : (b : Bool) → (if b then 6 else 5) < 8
-      high true = omega arith
-      high false = omega arith
+      high b = grind (arith, common_steps, cases_Bool)
 
       low : (b : Bool) → 1 ≤ (if b then 6 else 5)
-      low true = omega arith
-      low false = omega arith
+      low b = grind (arith, common_steps, cases_Bool)
 
       by_mark : (b : Bool) → nat_le (kind_at row) (if b then 6 else 5)
           ≡ ((kind_at row == 0) || (kind_at row == 1) || is_between 1 3 (kind_at row) || is_between 2 5 (kind_at row)
@@ -204,9 +201,7 @@ module _ {m : Layout} {marked : Bool} {kind_at : ℕ → ℕ} {ends : List ℕ} 
 
   -- dead and quit have the kinds 0 and 1, and no other row does
   first_kinds : (row : ℕ) → row ≤ 1 → kind_at row ≡ row
-  first_kinds zero h = has.are.dead
-  first_kinds (suc zero) h = has.are.quit
-  first_kinds (suc (suc row)) h = absurd (omega (arith, h))
+  first_kinds row h = grind (arith, common_steps, cases_eq, cases_lt, has.are.dead, has.are.quit)
 
   first_kind : (low : ℕ) → low ≤ 1 → (row : ℕ) → row < row_count m → (kind_at row == low) ≡ (row == low)
   first_kind low first row h = search (rules, first_kinds, ne_eqb, cases_eq, cases_lt)
@@ -265,8 +260,7 @@ module _ {m : Layout} {marked : Bool} {kind_at : ℕ → ℕ} {ends : List ℕ} 
 
     starts_range : (b : Bool)
         → IsRange m (special_ids (stride m) ends b).min_start (special_ids (stride m) ends b).max_start
-    starts_range true = ids_range 4 6 (omega arith) (omega arith) (omega arith)
-    starts_range false = inl (refl, refl)
+    starts_range b = search (rules, ids_range)
 
     pub ordered : IsOrdered m
     ordered = record {

@@ -1,17 +1,14 @@
 -- The bytes that lead a row elsewhere, as they are found one by one.
+use Rattle.std.proofs.lemmas.Bool.{cases_Bool}
 use Rattle.rx_spec.proofs.Prelude.{common_steps, ◌≡◌, ◌≢◌, ℕ, zero, suc, ◌+◌, ◌-◌, ◌<◌, ◌≤◌, ◌==◌, ◌&&◌, ◌||◌, not}
 use Rattle.rx_spec.proofs.Prelude.{nat_le, Bool, true, false, cond, List, [], ◌∷◌, ◌++◌, length, filter, refl, ap, ap₂}
 use Rattle.rx_spec.proofs.Prelude.{sym, ◌∙◌, subst, ⊎_elim, arith, length-append, list_any, range_with_len, Contains}
 use Rattle.rx_spec.proofs.Prelude.{or-true, and_parts, cases_lt, eq-eqb, ne_eqb, lt-ltb, ltb-true, append-nil}
 use Rattle.rx_spec.proofs.Prelude.{append_assoc, filter-append, Table, leaving, id_of, row_of}
+use Rattle.rx_order.proofs.Prelude.{IsId, are_needles, filter_within, id_at_row, leaving_of, range_within}
 use Rattle.rx_dense.specs.Accels.{takes}
 use Rattle.rx_order.proofs.ExchangedRows.{range_more}
-use Rattle.lemmas_tables.proofs.Filters.{filter_within, range_within}
-use Rattle.rx_search.specs.Starts.{IsId}
-use Rattle.rx_dense.proofs.Rows.{id_at_row}
 use Rattle.rx_order.proofs.KindNumbers.{at_most, over}
-use Rattle.rx_order.specs.ByKind.{leaving_of}
-use Rattle.rx_order.specs.RowOrder.{are_needles}
 
 -- the bytes below one that lead a row elsewhere
 abbrev pub leaving_below : Table → ℕ → ℕ → List ℕ
@@ -30,17 +27,13 @@ pub none_found : (t : Table) (row : ℕ) → AreFound t row [] 0
 none_found t row = record { are = refl; few = omega arith; no_space = refl }
 
 pub not_true : (b : Bool) → not b ≡ true → b ≡ false
-not_true true e = sym e
-not_true false e = refl
+not_true b e = grind (arith, common_steps, cases_Bool)
 
 pub not_false : (b : Bool) → not b ≡ false → b ≡ true
-not_false true e = refl
-not_false false e = sym e
+not_false b e = grind (arith, common_steps, cases_Bool)
 
 pub last_false : (a b : Bool) → (a && b && false) ≡ false
-last_false true true = refl
-last_false true false = refl
-last_false false b = refl
+last_false a b = grind (arith, common_steps, cases_Bool)
 
 -- what passes of a longer range has what passes of a shorter one in front
 filter_rest : (p : ℕ → Bool) (n more : ℕ)
@@ -57,8 +50,7 @@ filter_rest p n (suc more) =
     )
 
 any_append : (xs ys : List ℕ) → has_space (xs ++ ys) ≡ (has_space xs || has_space ys)
-any_append [] ys = refl
-any_append (x ∷ xs) ys = grind (arith, common_steps)
+any_append xs ys = grind (arith, common_steps)
 
 module _ {t : Table} {row byte : ℕ} {found : List ℕ} (h : AreFound t row found byte) where
   next_byte : leaving_below t row (byte + 1)

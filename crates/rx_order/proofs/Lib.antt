@@ -1,3 +1,5 @@
+-- what proofs take from other modules
+pub mod Prelude
 -- where each row lies after exchanges
 pub mod ExchangedRows
 -- tables whose rows have changed places

@@ -1,24 +1,23 @@
 -- Rows that are marked by their ids: those in which searches start, and those that match.
-use Rattle.rx_spec.proofs.Prelude.{common_steps, ◌≡◌, ℕ, zero, suc, ◌+◌, ◌*◌, ◌/◌, ◌%◌, ◌<◌, ◌==◌, ◌||◌, Bool, true}
-use Rattle.rx_spec.proofs.Prelude.{false, List, [], ◌∷◌, if◌then◌else◌, nat_lt, subst, length, drop, map, slice_index}
-use Rattle.rx_spec.proofs.Prelude.{slice_set, get_or, All, refl, ap, sym, ◌∙◌, ⊎_elim, arith, list_any, drop-cons}
-use Rattle.rx_spec.proofs.Prelude.{is_at, keys_of, is_eq, nat_cmp, Contains, Option, Some, None, is_some, and_parts}
-use Rattle.rx_spec.proofs.Prelude.{cases_eq, cases_lt, eq-eqb, false≢true, le-ltb, lt-ltb, ne_eqb, get_or_default}
-use Rattle.rx_spec.proofs.Prelude.{get_or-set_same, get_or-set_other, All-head, All-tail, Contains-get_or, pow_pos}
-use Rattle.rx_spec.proofs.Prelude.{or-false, or-true, mul-div_cancel, Label, IsSound, is_match, is_match_label}
+use Rattle.rx_spec.proofs.Prelude.{rules, common_steps, ◌≡◌, ℕ, zero, suc, ◌+◌, ◌*◌, ◌/◌, ◌%◌, ◌<◌, ◌==◌, ◌||◌, Bool}
+use Rattle.rx_spec.proofs.Prelude.{true, false, List, [], ◌∷◌, if◌then◌else◌, nat_lt, subst, length, drop, map}
+use Rattle.rx_spec.proofs.Prelude.{slice_index, slice_set, get_or, All, refl, ap, sym, ◌∙◌, ⊎_elim, arith, list_any}
+use Rattle.rx_spec.proofs.Prelude.{drop-cons, is_at, keys_of, is_eq, nat_cmp, Contains, Option, Some, None, is_some}
+use Rattle.rx_spec.proofs.Prelude.{and_parts, cases_eq, cases_lt, eq-eqb, false≢true, le-ltb, lt-ltb, ne_eqb}
+use Rattle.rx_spec.proofs.Prelude.{get_or_default, get_or-set_same, get_or-set_other, All-head, All-tail}
+use Rattle.rx_spec.proofs.Prelude.{Contains-get_or, pow_pos, or-false, or-true, mul-div_cancel, Label, IsSound}
+use Rattle.rx_spec.proofs.Prelude.{is_match}
+use Rattle.std.proofs.lemmas.Bool.{cases_Bool}
+use Rattle.rx_order.proofs.Prelude.{AreStarts, Layout, Start, context_number, drop_all, is_start_row, length-set}
+use Rattle.rx_order.proofs.Prelude.{machine_of, mode_place, quotient, row-below, row_count, stride, table_of}
 use Rattle.std.specs.Map.{lookup}
 use Rattle.std.proofs.lemmas.Map.Entries.{lookup_head, lookup_tail}
 use Rattle.lemmas_walks.proofs.Firsts.{Contains-here, Contains-nil, Contains-there}
-use Rattle.std.proofs.lemmas.List.{drop_all, length-set}
-use Rattle.rx_spec.specs.declared.Start.{Start}
 use Rattle.rx_base.specs.Search.{mode_of}
 use Rattle.rx_base.specs.declared.search.Anchored.{Anchored}
-use Rattle.rx_dense.specs.Layouts.{Layout, AreStarts, IsRowId, context_number, machine_of, mode_place, row_count}
-use Rattle.rx_dense.specs.Layouts.{stride, table_of}
+use Rattle.rx_dense.specs.Layouts.{IsRowId}
 use Rattle.rx_dense.specs.States.{starts_of}
-use Rattle.rx_dense.proofs.Rows.{quotient, row-below}
 use Rattle.rx_dense.proofs.States.{starts_of-len, starts_of-next}
-use Rattle.rx_order.specs.RowOrder.{is_start_row}
 
 -- a start entry: an id, a mode and a context
 abbrev pub Entry : Type 0
@@ -31,9 +30,7 @@ mode_at (suc (suc k)) = Anchored.Pattern k
 
 pub mode_at-place : (group : ℕ) → mode_place (mode_of (mode_at group)) ≡ 6 * group
 unfolding mode_at
-mode_at-place zero = refl
-mode_at-place (suc zero) = refl
-mode_at-place (suc (suc k)) = omega arith
+mode_at-place group = grind (arith, common_steps, cases_eq, cases_lt)
 
 pub context_at : ℕ → Start
 context_at zero = Start.NonWordByte
@@ -45,12 +42,7 @@ context_at (suc (suc (suc (suc (suc k))))) = Start.CustomLineTerminator
 
 pub context_at-number : (number : ℕ) → number < 6 → context_number (context_at number) ≡ number
 unfolding context_at
-context_at-number zero h = refl
-context_at-number (suc zero) h = refl
-context_at-number (suc (suc zero)) h = refl
-context_at-number (suc (suc (suc zero))) h = refl
-context_at-number (suc (suc (suc (suc zero)))) h = refl
-context_at-number (suc (suc (suc (suc (suc k))))) h = omega (arith, h)
+context_at-number number h = grind (arith, common_steps, cases_eq, cases_lt)
 
 module _ (l : Layout) (starts : AreStarts l) where
   ids_from : (more place : ℕ) → place + more ≡ length l.starts
@@ -94,8 +86,7 @@ any_contains x (y ∷ ys) e =
     (cases_eq y x)
 
 pub any_has : (x : ℕ) (xs : List ℕ) → Contains xs x → list_any (λ y. y == x) xs ≡ true
-any_has x [] c = absurd (Contains-nil x c)
-any_has x (y ∷ ys) c = grind (arith, common_steps, eq-eqb, or-true)
+any_has x xs c = grind (arith, common_steps, Contains-nil, eq-eqb, or-true)
 
 pub none_noted : (l : Layout) (flags : List Bool) (all : List ℕ) → length flags ≡ row_count l
     → ((row : ℕ) → row < row_count l → get_or flags row false ≡ false) → All (IsRowId l) all → AreNoted l flags all all
@@ -106,8 +97,7 @@ pub all_noted : {l : Layout} {flags : List Bool} {all : List ℕ} → AreNoted l
 all_noted {flags = flags} noted row h = sym (or-false (get_or flags row false)) ∙ noted.noted row h
 
 or_moved : (now was own others : Bool) → now ≡ (was || own) → (now || others) ≡ (was || (own || others))
-or_moved now true own others e = ap (λ b. b || others) e
-or_moved now false own others e = ap (λ b. b || others) e
+or_moved now was own others e = grind (arith, common_steps, cases_Bool)
 
 module _ {l : Layout} {flags : List Bool} {id : ℕ} {left all : List ℕ} (noted : AreNoted l flags (id ∷ left) all) where
   id_is : IsRowId l id
@@ -176,8 +166,7 @@ pub match_starts : (l : Layout) → IsSound (table_of l) → (row : ℕ) → is_
 match_starts l sound row e = by_start (is_start_row l row) refl
   where
     by_start : (b : Bool) → is_start_row l row ≡ b → b ≡ false
-    by_start false h = refl
-    by_start true h = absurd (false≢true (sym (ap is_match_label (start_row_plain l sound row h)) ∙ e))
+    by_start b h = search (rules, false≢true, start_row_plain)
 
 -- ---- keys
 
@@ -193,13 +182,7 @@ has_key {X} k (e ∷ entries) = by_test (is_at (nat_cmp k) e.0) refl (has_key k 
     by_test : (b : Bool) → is_at (nat_cmp k) e.0 ≡ b
         → is_some (lookup (is_at (nat_cmp k)) entries) ≡ list_any (λ x. x == k) (keys_of entries)
         → is_some (lookup (is_at (nat_cmp k)) (e ∷ entries)) ≡ list_any (λ x. x == k) (keys_of (e ∷ entries))
-    by_test true t rest =
-        ap (λ (o : Option X). is_some o) (lookup_head (is_at (nat_cmp k)) e entries t)
-        ∙ sym (ap (λ b. b || list_any (λ x. x == k) (keys_of entries)) (sym (is_at_number k e.0) ∙ t))
-    by_test false t rest =
-        ap (λ (o : Option X). is_some o) (lookup_tail (is_at (nat_cmp k)) e entries t)
-        ∙ rest
-        ∙ sym (ap (λ b. b || list_any (λ x. x == k) (keys_of entries)) (sym (is_at_number k e.0) ∙ t))
+    by_test b t rest = grind (arith, common_steps, cases_Bool, lookup_head, is_at_number, e.0, lookup_tail)
 
 -- each key is one that the map has
 pub key_ids : {X : Type 0} (P : ℕ → Type 0) (entries : List (ℕ × X))

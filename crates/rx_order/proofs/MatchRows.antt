@@ -1,34 +1,24 @@
 -- Match rows in order: where their patterns stand, and what each row tells.
-use Rattle.rx_spec.proofs.Prelude.{◌≡◌, ℕ, zero, suc, ◌+◌, ◌-◌, ◌*◌, ◌/◌, ◌<◌, ◌≤◌, ◌⊎◌, ◌==◌, nat_lt, nat_le, Bool}
-use Rattle.rx_spec.proofs.Prelude.{true, false, if◌then◌else◌, List, [], length, map, take, drop, slice_index, get_or}
-use Rattle.rx_spec.proofs.Prelude.{refl, ap, ap₂, sym, ◌∙◌, ⊎_elim, arith, common_steps, concat, range_with_len}
+use Rattle.rx_spec.proofs.Prelude.{rules, ◌≡◌, ℕ, ◌+◌, ◌-◌, ◌*◌, ◌/◌, ◌<◌, ◌≤◌, ◌⊎◌, ◌==◌, nat_lt, nat_le, Bool, true}
+use Rattle.rx_spec.proofs.Prelude.{false, if◌then◌else◌, List, [], length, map, take, drop, slice_index, get_or, refl}
+use Rattle.rx_spec.proofs.Prelude.{ap, ap₂, sym, ◌∙◌, ⊎_elim, arith, common_steps, concat, range_with_len}
 use Rattle.rx_spec.proofs.Prelude.{mul-div_cancel, and_parts, cases_eq, cases_lt, eq-eqb, false≢true, le-ltb, leb-true}
 use Rattle.rx_spec.proofs.Prelude.{lt-ltb, ltb-true, ne_eqb, fill_by_all, get_or-map-range_with_len}
 use Rattle.rx_spec.proofs.Prelude.{length-map-range_with_len, pow_pos, row_fits, Label, IsTable, Table, is_match}
 use Rattle.rx_spec.proofs.Prelude.{is_match_label}
-use Rattle.std.proofs.Math.Nat.{add-mul}
-use Rattle.rx_search.specs.Labels.{label_patterns, patterns_of}
-use Rattle.rx_dense.specs.Builder.{slices_from}
-use Rattle.rx_dense.specs.Layouts.{Layout, patterns_at, place_in_range, row_count, stride, table_of}
-use Rattle.rx_dense.specs.Specials.{is_quit_id}
-use Rattle.rx_dense.specs.declared.special.Special.{Special}
+use Rattle.rx_order.proofs.Prelude.{AreJoined, Layout, Special, add-mul, first_id, is_quit_id, label_patterns, last_id}
+use Rattle.rx_order.proofs.Prelude.{lists_in, match_count, match_lists, patterns_at, patterns_of, place_in_range}
+use Rattle.rx_order.proofs.Prelude.{row_count, slices_from, stride, table_of}
 use Rattle.rx_dense.proofs.PatternLists.{patterns_are}
-use Rattle.rx_order.specs.RowOrder.{AreJoined, match_count, match_lists}
 use Rattle.rx_order.proofs.Moved.{factor}
-use Rattle.rx_order.specs.ByKind.{lists_in}
-use Rattle.rx_order.specs.SpecialIds.{first_id, last_id}
 use Rattle.rx_order.proofs.KindRanges.{HasSpecials, ends_quit, from_end, is_between, low_kind, match_id}
 
 -- a label that matches has patterns, and one that neither matches nor quits tells nothing
 pub matching_label : (label : Label) → is_match_label label ≡ true → label ≡ Label.Matches (label_patterns label)
-matching_label Label.Plain e = absurd (false≢true e)
-matching_label (Label.Matches ks) e = refl
-matching_label Label.Quits e = absurd (false≢true e)
+matching_label label e = grind (arith, common_steps, false≢true)
 
 pub plain_label : (label : Label) → is_match_label label ≡ false → (label ≡ Label.Quits → ⊥) → label ≡ Label.Plain
-plain_label Label.Plain e no_quit = refl
-plain_label (Label.Matches ks) e no_quit = absurd (false≢true (sym e))
-plain_label Label.Quits e no_quit = absurd (no_quit refl)
+plain_label label e no_quit = grind (arith, common_steps, false≢true)
 
 -- rows of a range are counted from its first
 pub place_from : (from to width : ℕ) → 0 < width → from ≤ to → (to * width - from * width) / width ≡ to - from
@@ -50,9 +40,7 @@ range_count width from to some behind =
 
 -- dead and quit match nothing
 pub low_match : (t : Table) → IsTable t → (row : ℕ) → row ≤ 1 → is_match t row ≡ false
-low_match t is zero h = ap is_match_label is.dead_label
-low_match t is (suc zero) h = ap is_match_label is.quit_label
-low_match t is (suc (suc row)) h = absurd (omega (arith, h))
+low_match t is row h = grind (arith, common_steps, cases_eq, cases_lt, is.dead_label, is.quit_label)
 
 -- the patterns of all match rows are given, in the order of the rows
 pub record HasPatterns (ends : List ℕ) (m : Layout) (lists : List (List ℕ)) : Type 0 where
@@ -131,20 +119,19 @@ module _ {m : Layout} {marked : Bool} {kind_at : ℕ → ℕ} {ends : List ℕ} 
           → (if b then Label.Matches (patterns_at m (place_in_range m m.special.min_match (place * stride m)))
           else Label.Plain)
           ≡ (if b then Label.Matches (get_or lists (place - 2) []) else Label.Plain)
-      by_match false e = refl
-      by_match true e =
-          let kinds = and_parts (nat_lt 1 (kind_at place)) (nat_le (kind_at place) 3) e in
-          let test = are_to_end ∙ kinds.1 in
-          let inside : place < end 3 = ltb-true place (end 3) test in
-          let behind : 2 ≤ place =
-          ⊎_elim
-          (λ (high : 1 < place). high)
-          (λ (low : place ≤ 1).
-          absurd (omega (arith, low_kind s.are place low, ltb-true 1 (kind_at place) kinds.0)))
-          (cases_lt 1 place) in
-          ap Label.Matches
-          (ap (patterns_at m) (place_is place behind inside)
-          ∙ patterns_there (place - 2) (omega (arith, has.count)))
+      by_match b e =
+          search (
+            rules,
+            and_parts,
+            are_to_end,
+            ltb-true,
+            low_kind,
+            s.are,
+            cases_lt,
+            place_is,
+            patterns_there,
+            has.count,
+          )
         where
           are_to_end : nat_lt place (end 3) ≡ nat_le (kind_at place) 3
           are_to_end = s.are.to_end place 3 h (omega arith)

@@ -5,13 +5,9 @@ use Rattle.rx_spec.proofs.Prelude.{IsPermutation, cases_eq, cases_lt, pow_pos, r
 use Rattle.rx_spec.proofs.Prelude.{get_or-range_with_len, length-range_with_len, length-map-range_with_len}
 use Rattle.rx_spec.proofs.Prelude.{get_or-map-range_with_len, All-from_get_or, All-permutation, IsPermutation-swap}
 use Rattle.rx_spec.proofs.Prelude.{length_permutation}
-use Rattle.std.proofs.lemmas.List.Edits.{Swapped, swapped_from_swap}
-use Rattle.std.proofs.lemmas.List.Sorted.{IsPermutation-refl, IsPermutation-trans}
-use Rattle.rx_search.specs.Starts.{IsId}
-use Rattle.rx_dense.proofs.Rows.{IsId-row_id, IsRowId-row}
-use Rattle.rx_dense.specs.Builder.{AreSwapped, IsOutside}
-use Rattle.rx_dense.specs.Layouts.{Layout, ids_of, row_count, stride}
-use Rattle.rx_order.specs.Moved.{AreMoved, AreUnmoved, LiesAt}
+use Rattle.rx_order.proofs.Prelude.{AreMoved, AreSwapped, AreUnmoved, IsId, IsId-row_id, IsOutside, IsPermutation-refl}
+use Rattle.rx_order.proofs.Prelude.{IsPermutation-trans, IsRowId-row, Layout, LiesAt, Swapped, ids_of, row_count}
+use Rattle.rx_order.proofs.Prelude.{stride, swapped_from_swap}
 use Rattle.rx_order.proofs.ExchangedRows.{count_of, places_apart, row_below}
 
 -- multiples of a number are told by their factors

@@ -2,9 +2,9 @@
 use Rattle.rx_spec.proofs.Prelude.{◌≡◌, ℕ, ◌+◌, ◌*◌, ◌/◌, ◌^◌, ◌<◌, List, length, sym, ◌∙◌, ap, subst, arith, ⊎_elim}
 use Rattle.rx_spec.proofs.Prelude.{All, slice_index, slice_set, cases_eq, get_or_default, get_or-set_other}
 use Rattle.rx_spec.proofs.Prelude.{get_or-set_same, pow_pos, mul-div_cancel, mul-mod_left}
-use Rattle.std.proofs.lemmas.List.{length-set}
-use Rattle.rx_order.specs.Transitions.{Transitions, AreRows, IsRowId, row_of, with_ids}
-use Rattle.rx_order.specs.Renaming.{Arrangement, Fits, IsArrangement, new_id, place_of}
+use Rattle.rx_order.proofs.Prelude.{Arrangement, Fits, IsArrangement, Transitions, length-set, new_id, place_of}
+use Rattle.rx_order.proofs.Prelude.{with_ids}
+use Rattle.rx_order.specs.Transitions.{AreRows, IsRowId, row_of}
 use Rattle.rx_order.proofs.ExchangedRows.{places_apart, row_at_place, row_below}
 use Rattle.rx_order.proofs.Renamed.{with_ids-same}
 

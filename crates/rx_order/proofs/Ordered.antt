@@ -1,21 +1,20 @@
 -- Tables whose rows lie in the order of their kinds: which ids are special, and which rows these are.
-use Rattle.rx_spec.proofs.Prelude.{rules, ◌≡◌, ◌≢◌, ℕ, zero, suc, ◌+◌, ◌*◌, ◌<◌, ◌≤◌, ◌&&◌, nat_lt, nat_le, Bool, true}
+use Rattle.rx_spec.proofs.Prelude.{rules, ◌≡◌, ◌≢◌, ℕ, zero, suc, ◌+◌, ◌-◌, ◌*◌, ◌<◌, ◌≤◌, ◌&&◌, nat_lt, nat_le, Bool}
 use Rattle.rx_spec.proofs.Prelude.{false, List, length, slice_index, refl, ap, ap₂, sym, ◌∙◌, ⊎_elim, arith}
 use Rattle.rx_spec.proofs.Prelude.{common_steps, cases_eq, cases_lt, lt-ltb, le-ltb, div-add-mod', mul-le, pow_pos}
-use Rattle.rx_spec.proofs.Prelude.{max_id, is_match}
-use Rattle.rx_dense.specs.Layouts.{Layout, AreRows, machine_of, row_count, stride, table_of}
-use Rattle.rx_dense.specs.Specials.{is_accel_id}
-use Rattle.rx_order.specs.Permuted.{IsPermuted}
-use Rattle.rx_order.specs.ByKind.{AreByKind, AreKinds}
-use Rattle.rx_order.specs.Moved.{IsReordered}
-use Rattle.rx_order.specs.RowOrder.{IsOrdered, is_start_row, kind_by, kind_of}
-use Rattle.rx_order.specs.SpecialIds.{AreKindEnds, special_ids}
+use Rattle.rx_spec.proofs.Prelude.{max_id, is_match, subst, range_with_len, IsPermutation, true}
+use Rattle.rx_order.proofs.Prelude.{AreByKind, AreKindEnds, AreKinds, AreStarts, IsPermuted, IsReordered, Layout}
+use Rattle.rx_order.proofs.Prelude.{is_accel_id, is_start_row, kind_by, kind_of, machine_of, row_count, rows_kept}
+use Rattle.rx_order.proofs.Prelude.{special_ids, starts_kept, stride, table_of, with_patterns}
+use Rattle.rx_dense.specs.Layouts.{AreRows}
+use Rattle.rx_order.specs.RowOrder.{IsOrdered}
 use Rattle.rx_order.proofs.Reordered.{IsBefore, any_start, entry_of, next_of_row, number_below, number_of_place}
 use Rattle.rx_order.proofs.Reordered.{numbers, permutation, row_at_number, row_of_place, size, stride_is, two_rows}
 use Rattle.rx_order.proofs.KindNumbers.{high_kind, at_most, over, kind_high, high_above, row_first, row_dead}
 use Rattle.rx_order.proofs.KindNumbers.{high_matches, high_accels, high_starts, kind_low, label_match}
 use Rattle.rx_order.proofs.KindRanges.{HasSpecials, is_between}
 use Rattle.rx_order.proofs.KindRanges as KindRanges
+use Rattle.rx_order.proofs.MatchRows.{HasPatterns}
 
 -- ---- ids of places
 
@@ -280,4 +279,66 @@ module _ {x : Sorting} {l new m : Layout} (a : IsArranged x l new m) where
     nexts = λ row unit h u.
         ap (λ (k : Layout). (machine_of k).next (number row) unit) a.rest
         ∙ next_of_row a.reordered a.before row unit h u;
+  }
+
+-- ---- what a call makes
+
+-- by what it learns of a table and what its calls leave: patterns are given, rows move, and special ids are set
+pub record IsArranging (x : Sorting) (old : Layout) (lists : List (List ℕ)) (next new m : Layout) : Type 0 where
+  pub are_rows : AreRows old
+  pub are_starts : AreStarts old
+  pub kinds_are : AreKinds old x.matches x.accelerated x.kinds
+  pub by_kind : AreByKind x.kinds x.rows x.ends
+  pub plain : (row : ℕ) → x.matches row ≡ true → is_start_row old row ≡ false
+  pub next_is : next ≡ with_patterns old lists
+  pub reordered : IsReordered x.rows next new
+  pub set : m ≡ record new { accels = m.accels; special = special_ids (stride new) x.ends x.marked }
+
+module _ {x : Sorting} {old : Layout} {lists : List (List ℕ)} {next new m : Layout}
+    (s : IsArranging x old lists next new m) where
+  abbrev given : Layout
+  given = with_patterns old lists
+
+  reordered : IsReordered x.rows given new
+  reordered = subst (λ k. IsReordered x.rows k new) s.next_is s.reordered
+
+  before : IsBefore given x.rows
+  before = record {
+    are_rows = rows_kept old given refl refl refl s.are_rows;
+    are_starts = starts_kept old given refl (omega arith) refl refl refl s.are_starts;
+    order = subst (λ n. IsPermutation (range_with_len 0 n) x.rows) s.kinds_are.count s.by_kind.permutation;
+  }
+
+  pub arranged : IsArranged x given new m
+  arranged = record {
+    before = before;
+    reordered = reordered;
+    kinds = record { count = s.kinds_are.count; kinds_are = s.kinds_are.kinds_are };
+    by_kind = s.by_kind;
+    plain = s.plain;
+    rest =
+        subst (λ (k : Layout). k ≡ record new {
+          slices = k.slices;
+          pattern_ids = k.pattern_ids;
+          special = special_ids (stride given) x.ends x.marked;
+          accels = k.accels;
+        })
+        (sym (s.set ∙ ap (λ w. record new { accels = m.accels; special = special_ids w x.ends x.marked })
+        (stride_is reordered before))) refl;
+  }
+
+  pub arranging_ends : (kind : ℕ) → kind < 8 → slice_index x.ends kind * stride new ≤ max_id + stride new
+  arranging_ends kind h =
+      subst (λ w. slice_index x.ends kind * w ≤ max_id + w) (sym (stride_is reordered before))
+      (ends_few old x.kinds x.rows x.ends s.by_kind s.kinds_are.count s.are_rows kind h)
+
+  pub patterns_given : length lists ≡ slice_index x.ends 3 - 2 → HasPatterns x.ends m lists
+  patterns_given count = record {
+    count = count;
+    slices =
+        ap (λ (k : Layout). k.slices) s.set ∙ ap (λ (k : Layout). k.slices) reordered.is
+        ∙ ap (λ (k : Layout). k.slices) reordered.moved.rest;
+    pattern_ids =
+        ap (λ (k : Layout). k.pattern_ids) s.set ∙ ap (λ (k : Layout). k.pattern_ids) reordered.is
+        ∙ ap (λ (k : Layout). k.pattern_ids) reordered.moved.rest;
   }

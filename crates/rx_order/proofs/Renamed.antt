@@ -2,10 +2,10 @@
 use Rattle.rx_spec.proofs.Prelude.{common_steps, ◌≡◌, ℕ, ◌<◌, List, [], ◌∷◌, length, map, refl, ◌∙◌, ap, ap₂, arith}
 use Rattle.rx_spec.proofs.Prelude.{All, range_with_len, swap, get_or-map, length-map, length-swap, All-head, All-tail}
 use Rattle.rx_spec.proofs.Prelude.{fill_by_all, length-range_with_len, IsPermutation-swap}
-use Rattle.std.proofs.lemmas.List.Sorted.{IsPermutation-trans}
-use Rattle.rx_order.specs.Transitions.{Transitions, AreRows, IsRowId, with_ids, with_swapped}
-use Rattle.rx_order.specs.Renaming.{Arrangement, Fits, IsArrangement, IsRearranged, IsRenamed, new_id, place_of, row_at}
-use Rattle.rx_order.specs.Renaming.{rearranged, unmoved}
+use Rattle.rx_order.proofs.Prelude.{Arrangement, Fits, IsArrangement, IsPermutation-trans, IsRearranged, IsRenamed}
+use Rattle.rx_order.proofs.Prelude.{Transitions, new_id, place_of, rearranged, with_ids, with_swapped}
+use Rattle.rx_order.specs.Transitions.{AreRows, IsRowId}
+use Rattle.rx_order.specs.Renaming.{row_at, unmoved}
 use Rattle.rx_order.proofs.ExchangedRows.{map-swap, row_at_place}
 
 -- ---- before the first exchange

@@ -1,17 +1,16 @@
 -- A table whose rows were moved and renamed: the numbers of its rows, and where they lead.
 use Rattle.rx_spec.proofs.Prelude.{rules, ◌≡◌, ℕ, ◌+◌, ◌*◌, ◌/◌, ◌^◌, ◌<◌, ◌≤◌, ◌==◌, ◌||◌, Bool, List, [], ◌∷◌, length}
 use Rattle.rx_spec.proofs.Prelude.{map, slice_index, All, map-id, refl, ap, ap₂, sym, ◌∙◌, subst, ⊎_elim, arith}
-use Rattle.rx_spec.proofs.Prelude.{common_steps, list_any, range_with_len, IsPermutation, mul-div_cancel, cases_eq}
-use Rattle.rx_spec.proofs.Prelude.{cases_lt, eq-eqb, ne_eqb, lt-ltb, le-ltb, get_or-map, length-map, All-head, All-tail}
-use Rattle.rx_spec.proofs.Prelude.{All-from_get_or, fill_by_all, get_or-map-range_with_len, length-map-range_with_len}
-use Rattle.rx_spec.proofs.Prelude.{le-div, pow_pos, Anchored}
-use Rattle.std.proofs.lemmas.List.Sorted.{IsPermutation-map}
-use Rattle.rx_spec.specs.declared.Start.{Start}
-use Rattle.rx_dense.specs.Layouts.{Layout, IsRowId, AreRows, AreStarts, column, ids_of, machine_of, mode_place}
-use Rattle.rx_dense.specs.Layouts.{row_count, stride}
-use Rattle.rx_dense.proofs.Rows.{column_within, quotient, row-below, start_is_row}
+use Rattle.rx_spec.proofs.Prelude.{common_steps, list_any, range_with_len, IsPermutation, mul-div_cancel, cases_lt}
+use Rattle.rx_spec.proofs.Prelude.{lt-ltb, le-ltb, get_or-map, length-map, All-head, All-tail, All-from_get_or}
+use Rattle.rx_spec.proofs.Prelude.{fill_by_all, get_or-map-range_with_len, length-map-range_with_len, le-div, pow_pos}
+use Rattle.rx_spec.proofs.Prelude.{Anchored}
+use Rattle.rx_order.proofs.Prelude.{AreStarts, IsPermutation-map, IsReordered, Layout, Start, column, column_within}
+use Rattle.rx_order.proofs.Prelude.{ids_of, machine_of, mode_place, quotient, row-below, row_count, start_is_row}
+use Rattle.rx_order.proofs.Prelude.{stride}
+use Rattle.rx_dense.specs.Layouts.{AreRows, IsRowId}
 use Rattle.rx_order.proofs.ExchangedRows.{places_apart, row_below}
-use Rattle.rx_order.specs.Moved.{IsReordered}
+use Rattle.rx_order.proofs.KindNumbers.{same_test}
 use Rattle.rx_order.proofs.Moved.{factor, id_count, ids_count}
 
 -- what is known of a table before its rows are moved
@@ -171,17 +170,11 @@ module _ {rows : List ℕ} {old new : Layout} (re : IsReordered rows old new) (b
           let row : ℕ = id / stride old in
           let below : row < row_count old = row-below old id is in
           let whole : row * stride old ≡ id = quotient id (stride old) is.whole in
-          ⊎_elim
-          (λ (e : row ≡ slice_index rows place).
-          let here : slice_index re.ids row ≡ place * stride old =
-          id_is row below ∙ ap (λ r. slice_index numbers r * stride old) e
-          ∙ ap (λ k. k * stride old) (number_of_place place h) in
-          eq-eqb _ _ here ∙ sym (eq-eqb _ _ (sym whole ∙ ap (λ r. r * stride old) e)))
-          (λ (ne : row ≡ slice_index rows place → ⊥).
-          let elsewhere : slice_index re.ids row ≡ place * stride old → ⊥ = λ e.
+          same_test
+          (λ e.
           let number = factor some (slice_index numbers row) place (sym (id_is row below) ∙ e) in
-          ne (sym (row_at_number row below) ∙ ap (slice_index rows) number) in
-          let other : id ≡ slice_index rows place * stride old → ⊥ = λ e.
-          ne (factor some row (slice_index rows place) (whole ∙ e)) in
-          ne_eqb _ _ elsewhere ∙ sym (ne_eqb _ _ other))
-          (cases_eq row (slice_index rows place))
+          sym whole ∙ ap (λ r. r * stride old) (sym (row_at_number row below) ∙ ap (slice_index rows) number))
+          (λ e.
+          id_is row below
+          ∙ ap (λ r. slice_index numbers r * stride old) (factor some row (slice_index rows place) (whole ∙ e))
+          ∙ ap (λ k. k * stride old) (number_of_place place h))

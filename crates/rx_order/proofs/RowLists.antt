@@ -5,16 +5,13 @@ use Rattle.rx_spec.proofs.Prelude.{All, range_with_len, swap, cases_eq, lt-ltb, 
 use Rattle.rx_spec.proofs.Prelude.{get_or-set_other, length-map, length-swap, All-from_get_or}
 use Rattle.rx_spec.proofs.Prelude.{get_or-map-range_with_len, length-map-range_with_len, mod-mul-add, pow_pos}
 use Rattle.rx_spec.proofs.Prelude.{mul-div_cancel}
-use Rattle.std.proofs.lemmas.List.{length-set}
-use Rattle.std.proofs.lemmas.List.Edits.{swap_is}
-use Rattle.rx_base.specs.ByteClasses.{alphabet_len}
+use Rattle.rx_order.proofs.Prelude.{AreStarts, AreSwapped, IsOutside, IsRowId-row, Layout, alphabet_len, id_few}
+use Rattle.rx_order.proofs.Prelude.{length-set, quotient, renamed_word, row-below, row_count, rows_apart, stride}
+use Rattle.rx_order.proofs.Prelude.{swap_is, with_ids, with_swapped}
 use Rattle.rx_order.specs.Transitions as remap
-use Rattle.rx_order.specs.Transitions.{with_ids, with_swapped}
-use Rattle.rx_dense.specs.Builder.{AreSwapped, IsOutside, renamed, renamed_word}
-use Rattle.rx_dense.specs.Layouts.{Layout, AreRows, AreStarts, IsRowId, row_count, stride}
+use Rattle.rx_dense.specs.Builder.{renamed}
+use Rattle.rx_dense.specs.Layouts.{AreRows, IsRowId}
 use Rattle.rx_order.specs.RowLists.{row_ids, transitions_of}
-use Rattle.rx_dense.proofs.Rows.{IsRowId-row, id_few, quotient, row-below}
-use Rattle.rx_dense.proofs.Shaped.{rows_apart}
 
 -- a function of the numbers below a bound, given another way
 pub same_range : {X : Type 0} (f g : ℕ → X) (n : ℕ) (d : X) → ((k : ℕ) → k < n → f k ≡ g k)

@@ -1,11 +1,10 @@
 -- A table whose rows are rows of another table under other names: what it says of words, and that it is sound.
-use Rattle.rx_spec.proofs.Prelude.{◌≡◌, ◌≢◌, ℕ, zero, suc, ◌<◌, ◌≤◌, ◌==◌, true, false, List, [], ◌∷◌, length}
-use Rattle.rx_spec.proofs.Prelude.{slice_index, Some, sym, ap, ◌∙◌, subst, arith, position_or_len, Contains, ◌||◌}
-use Rattle.rx_spec.proofs.Prelude.{false≢true, AreToldApart, IsReachedRow, SameLabels, IsWord, Label, Settings, run}
-use Rattle.rx_spec.proofs.Prelude.{Anchored, IsSound, IsTable, Table, is_match, leaving}
-use Rattle.rx_spec.specs.declared.Start.{Start}
+use Rattle.rx_spec.proofs.Prelude.{common_steps, cases_eq, cases_lt, ◌≡◌, ◌≢◌, ℕ, ◌<◌, ◌≤◌, ◌==◌, true, false, List, []}
+use Rattle.rx_spec.proofs.Prelude.{◌∷◌, length, slice_index, Some, sym, ap, ◌∙◌, subst, arith, position_or_len}
+use Rattle.rx_spec.proofs.Prelude.{Contains, ◌||◌, false≢true, AreToldApart, IsReachedRow, SameLabels, IsWord, Label}
+use Rattle.rx_spec.proofs.Prelude.{Settings, run, Anchored, IsSound, IsTable, Table, is_match, leaving}
+use Rattle.rx_order.proofs.Prelude.{IsPermuted, Start}
 use Rattle.lemmas_walks.proofs.Words.{run-nil, run-cons, run-within, IsWord-head, IsWord-tail}
-use Rattle.rx_order.specs.Permuted.{IsPermuted}
 use Rattle.rx_order.proofs.ExchangedRows.{place_of-row, row_at_place, row_below}
 
 -- Each row of the first table has a name, which is a row of the second one: this leads to the names of the rows to
@@ -71,9 +70,7 @@ module _ {t u : Table} (n : AreNames t u) where
   high_row place high h = by_row (n.row_at place) (n.named place h)
     where
       by_row : (row : ℕ) → n.name row ≡ place → 1 < row
-      by_row zero e = absurd (omega (arith, n.dead, e, high))
-      by_row (suc zero) e = absurd (omega (arith, n.quit, e, high))
-      by_row (suc (suc row)) e = omega arith
+      by_row row e = grind (arith, common_steps, cases_eq, cases_lt, n.dead, n.quit)
 
   -- ---- words
 

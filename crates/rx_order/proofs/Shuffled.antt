@@ -1,43 +1,35 @@
 -- Shuffled tables: the match rows lie in the order of their ids, so their patterns are the lists of the map in its
 -- order.
+use Rattle.std.proofs.lemmas.Bool.{cases_Bool}
 use Rattle.rx_spec.proofs.Prelude.{rules, ◌≡◌, ℕ, zero, suc, ◌+◌, ◌-◌, ◌*◌, ◌/◌, ◌<◌, ◌≤◌, ◌⊎◌, ◌==◌, ◌&&◌, Bool, true}
 use Rattle.rx_spec.proofs.Prelude.{false, if◌then◌else◌, Option, Some, None, List, [], ◌∷◌, length, map, slice_index}
 use Rattle.rx_spec.proofs.Prelude.{get_or, Vec, Global, refl, ap, ap₂, sym, ◌∙◌, subst, ⊎_elim, arith, common_steps}
-use Rattle.rx_spec.proofs.Prelude.{get, is_at, keys, concat, list_any, range_with_len, IsStrictlyIncreasing, keys_of}
-use Rattle.rx_spec.proofs.Prelude.{values_of, nat_cmp, Contains, is_some, All, vec_items, cases_eq, cases_lt, eq-eqb}
-use Rattle.rx_spec.proofs.Prelude.{eqb-true, false≢true, ne_eqb, lt-ltb, le-ltb, get_or-map-range_with_len}
-use Rattle.rx_spec.proofs.Prelude.{length-map-range_with_len, length-range_with_len, mul-le, row_fits, and-false}
-use Rattle.rx_spec.proofs.Prelude.{mul-div_cancel, length-map, get_or_default, Label, All-contains, length_permutation}
-use Rattle.rx_spec.proofs.Prelude.{max_id, Anchored, IsSound, IsTable, Table}
+use Rattle.rx_spec.proofs.Prelude.{get, is_at, keys, list_any, range_with_len, IsStrictlyIncreasing, keys_of, values_of}
+use Rattle.rx_spec.proofs.Prelude.{nat_cmp, Contains, is_some, All, vec_items, cases_eq, cases_lt, eq-eqb, eqb-true}
+use Rattle.rx_spec.proofs.Prelude.{false≢true, ne_eqb, lt-ltb, le-ltb, get_or-map-range_with_len}
+use Rattle.rx_spec.proofs.Prelude.{length-map-range_with_len, mul-le, row_fits, and-false, mul-div_cancel, length-map}
+use Rattle.rx_spec.proofs.Prelude.{get_or_default, Label, All-contains, Anchored, IsSound, IsTable, Table}
+use Rattle.rx_order.proofs.Prelude.{AreMatches, AreRanked, IsPermuted, IsRouted, IsShuffled, Layout, Matches, Start}
+use Rattle.rx_order.proofs.Prelude.{context_number, is_match_row, is_start_row, label_by, label_of_patterns, machine_of}
+use Rattle.rx_order.proofs.Prelude.{mode_place, pattern_lists, quotient, row-below, row_count, start_is_row}
+use Rattle.rx_order.proofs.Prelude.{start_within, stride, table_of, with_patterns}
 use Rattle.std.specs.BTreeMap.{IsOrdered}
 use Rattle.std.specs.List.{slice_get}
 use Rattle.std.proofs.lemmas.Map.Entries.{length-keys_of, length-values_of, place_from_lookup}
 use Rattle.std.proofs.lemmas.Map.Keys.{IsStrictlyIncreasing-from_sorted, below_from_sorted}
 use Rattle.std.proofs.lemmas.Map.Keys.{sorted_from_strictly_increasing}
-use Rattle.rx_order.specs.RowOrder.{is_start_row}
 use Rattle.lemmas_walks.proofs.Firsts.{Contains-cases, Contains-here, Contains-nil, Contains-there}
-use Rattle.rx_dense.specs.Builder.{pattern_lists, slices_from, with_patterns}
-use Rattle.rx_dense.specs.Layouts.{Layout, AreRows, row_count, stride, table_of, AreStarts, context_number, machine_of}
-use Rattle.rx_dense.specs.Layouts.{mode_place}
-use Rattle.rx_dense.proofs.Rows.{quotient, row-below, start_is_row, start_within}
-use Rattle.rx_order.specs.Ordering.{AreMatches, IsRouted, IsShuffled, Matches, is_match_row, label_by}
-use Rattle.rx_order.specs.Ordering.{label_of_patterns}
 use Rattle.rx_order.proofs.MarkedRows.{any_contains, any_has, has_key, is_at_number}
 use Rattle.rx_order.proofs.Moved.{factor}
 use Rattle.rx_order.proofs.MatchRows.{HasPatterns, label_at, joined}
-use Rattle.rx_order.proofs.ExchangedRows.{places_apart, row_below}
-use Rattle.rx_order.proofs.KindNumbers.{high_kind, kind_accels, kind_high, kind_matches}
+use Rattle.rx_order.proofs.ExchangedRows.{count_of, places_apart, row_below}
+use Rattle.rx_order.proofs.KindNumbers.{high_kind, kind_accels, kind_high, kind_matches, same_test}
 use Rattle.rx_order.proofs.Ordered.{IsArranged, Sorting, before_end, behind_end, end, end_within, high_at, high_kind_is}
-use Rattle.rx_order.proofs.Ordered.{ends_few, specials, accel_id, ordered, permuted, size_same, start_is, kind_at}
-use Rattle.rx_order.proofs.Ordered.{kind_is, kind_of_number, low_kind, low_row, number, quit, row_at, some}
-use Rattle.rx_dense.proofs.Shaped.{rows_kept, starts_kept}
-use Rattle.rx_order.specs.ByKind.{AreByKind, AreKinds, AreRanked}
-use Rattle.rx_order.specs.Moved.{IsReordered}
-use Rattle.rx_order.specs.SpecialIds.{special_ids}
-use Rattle.rx_order.proofs.Reordered.{IsBefore, stride_is, numbers, zero_div, number_below, number_of_place}
-use Rattle.rx_order.proofs.Reordered.{entry_below, next_below, row_at_number, two_rows}
-use Rattle.rx_spec.specs.declared.Start.{Start}
-use Rattle.rx_order.specs.Permuted.{IsPermuted}
+use Rattle.rx_order.proofs.Ordered.{specials, accel_id, ordered, permuted, size_same, start_is, kind_at, kind_is}
+use Rattle.rx_order.proofs.Ordered.{kind_of_number, low_kind, low_row, number, quit, row_at, some, IsArranging}
+use Rattle.rx_order.proofs.Ordered.{arranged, patterns_given}
+use Rattle.rx_order.proofs.Reordered.{numbers, zero_div, number_below, number_of_place, entry_below, next_below}
+use Rattle.rx_order.proofs.Reordered.{row_at_number, two_rows}
 use Rattle.rx_order.proofs.Runs.{no_needles, permuted_moved}
 use Rattle.rx_order.proofs.Sound.{frame, sound, universal_below}
 use Rattle.rx_order.proofs.KindRanges.{is_between, no_accels}
@@ -103,8 +95,7 @@ list_there (entry ∷ entries) (suc i) k v e = list_there entries i k v e
 -- ---- what labels say
 
 not_quits : (o : Option (Vec ℕ Global)) → label_of_patterns o ≡ Label.Quits → ⊥
-not_quits None e = cc
-not_quits (Some v) e = cc
+not_quits o e = grind (arith, common_steps)
 
 quits_apart : (ks : List ℕ) → Label.Quits ≡ Label.Matches ks → ⊥
 quits_apart ks e = cc
@@ -116,25 +107,40 @@ found_list (Some v) ks e = (v, refl, cc)
 
 -- ---- a table that is shuffled
 
--- by the kinds of its rows, with the patterns that were given
-pub record IsShuffle (old : Layout) (matches : Matches) (x : Sorting) (new m : Layout) : Type 0 where
+-- no search starts in a match row
+pub plain : {old : Layout} {matches : Matches} → AreMatches old matches → (row : ℕ)
+    → is_match_row old matches row ≡ true → is_start_row old row ≡ false
+plain {old} are row e = search (rules, false≢true, and-false, any_contains)
+
+-- by the kinds of its rows
+abbrev pub sorting : (old : Layout) (matches : Matches) (kinds rows ends : List ℕ) → Sorting
+sorting old matches kinds rows ends = record {
+  kinds = kinds;
+  rows = rows;
+  ends = ends;
+  marked = true;
+  matches = is_match_row old matches;
+  accelerated = λ row. false;
+}
+
+-- by what the call learns of a table and what its calls leave, with the patterns that were given
+pub record IsShuffle (old : Layout) (matches : Matches) (x : Sorting) (ranks : List ℕ) (next new m : Layout)
+    : Type 0 where
   pub are : AreMatches old matches
   pub ordered : IsOrdered nat_cmp matches
   pub marked : x.marked ≡ true
   pub matches_are : x.matches ≡ is_match_row old matches
   pub none_accelerated : x.accelerated ≡ (λ row. false)
-  pub arranged : IsArranged x (with_patterns old (pattern_lists matches)) new m
-  pub slices : m.slices ≡ slices_from 0 (pattern_lists matches)
-  pub pattern_ids : m.pattern_ids ≡ concat (pattern_lists matches)
-  pub accels : m.accels ≡ old.accels
+  pub arranging : IsArranging x old (pattern_lists matches) next new m
+  pub accels : m.accels ≡ new.accels
   -- match rows keep their order
-  pub rise : (low high : ℕ) → low < high → high < row_count old
-      → slice_index x.kinds (slice_index x.rows low) ≡ 2 → slice_index x.kinds (slice_index x.rows high) ≡ 2
-      → slice_index x.rows low < slice_index x.rows high
+  pub ranked : AreRanked x.kinds ranks x.rows
+  pub match_ranks : (row : ℕ) → row < row_count old → slice_index x.kinds row ≡ 2 → slice_index ranks row ≡ row
 
-module _ {old : Layout} {matches : Matches} {x : Sorting} {new m : Layout} (s : IsShuffle old matches x new m) where
+module _ {old : Layout} {matches : Matches} {x : Sorting} {ranks : List ℕ} {next new m : Layout}
+    (s : IsShuffle old matches x ranks next new m) where
   abbrev a : IsArranged x (with_patterns old (pattern_lists matches)) new m
-  a = s.arranged
+  a = arranged s.arranging
 
   match_at : (row : ℕ) → x.matches row ≡ is_match_row old matches row
   match_at row = ap (λ (f : ℕ → Bool). f row) s.matches_are
@@ -161,9 +167,7 @@ module _ {old : Layout} {matches : Matches} {x : Sorting} {new m : Layout} (s : 
 
   -- the kind of match rows
   two_kind : (b c : Bool) → 1 < high_kind b false c → high_kind b false c ≤ 3 → (b ≡ true) × (high_kind b false c ≡ 2)
-  two_kind true c low high = (refl, refl)
-  two_kind false true low high = absurd (omega arith)
-  two_kind false false low high = absurd (omega arith)
+  two_kind b c low high = grind (arith, common_steps, cases_Bool)
 
   -- match rows lie up to where they end
   match_place : (place : ℕ) → 2 ≤ place → place < end a 3 → (x.matches (row_at a place) ≡ true) × (kind_at a place ≡ 2)
@@ -198,6 +202,19 @@ module _ {old : Layout} {matches : Matches} {x : Sorting} {new m : Layout} (s : 
             (cases_lt (number a row) (end a 3)),
       )
 
+  -- Their ranks are their numbers, and no two places have one row.
+  rise : (low high : ℕ) → low < high → high < row_count old
+      → slice_index x.kinds (row_at a low) ≡ 2 → slice_index x.kinds (row_at a high) ≡ 2
+      → row_at a low < row_at a high
+  rise low high l h first second =
+      let order = a.before.order in
+      let ranks_rise = s.ranked low high (omega arith) (omega (arith, count_of order)) (first ∙ sym second) in
+      let below = row_below order low (omega arith) in
+      let behind = row_below order high h in
+      let apart : row_at a low ≡ row_at a high → ⊥ = λ e.
+      absurd (omega (arith, places_apart order low high (omega arith) h e)) in
+      omega (arith, ranks_rise, s.match_ranks _ below first, s.match_ranks _ behind second, apart)
+
   -- the ids of the match rows, in their order
   ids : List ℕ
   ids = map (λ i. row_at a (i + 2) * stride old) (range_with_len 0 (end a 3 - 2))
@@ -218,7 +235,7 @@ module _ {old : Layout} {matches : Matches} {x : Sorting} {new m : Layout} (s : 
       let second = match_place (i + 1 + 2) (omega arith) (omega arith) in
       let within = end_within a 3 (omega arith) in
       let rises : row_at a (i + 2) < row_at a (i + 1 + 2) =
-      s.rise (i + 2) (i + 1 + 2) (omega arith) (omega arith) first.1 second.1 in
+      rise (i + 2) (i + 1 + 2) (omega arith) (omega arith) first.1 second.1 in
       let at = id_at i 0 (omega arith) in
       let behind = id_at (i + 1) 0 more in
       omega (
@@ -270,7 +287,7 @@ module _ {old : Layout} {matches : Matches} {x : Sorting} {new m : Layout} (s : 
   lists_count = grind (arith, common_steps, length-map, length-values_of, length-keys_of, keys_are, ids_count)
 
   pub has_patterns : HasPatterns x.ends m (pattern_lists matches)
-  has_patterns = record { count = lists_count; slices = s.slices; pattern_ids = s.pattern_ids }
+  has_patterns = patterns_given s.arranging lists_count
 
   -- the list of a row's patterns
   list_is : (row : ℕ) (v : Vec ℕ Global) → get nat_cmp matches (row * stride old) ≡ Some v → row < row_count old
@@ -307,13 +324,9 @@ module _ {old : Layout} {matches : Matches} {x : Sorting} {new m : Layout} (s : 
 
   same_quit : (row : ℕ) → row < row_count old → (number a row == 1) ≡ (row == 1)
   same_quit row h =
-      ⊎_elim
-      (λ (e : row ≡ 1). eq-eqb (number a row) 1 (ap (number a) e ∙ quit a) ∙ sym (eq-eqb row 1 e))
-      (λ (ne : row ≡ 1 → ⊥).
-      let other : number a row ≡ 1 → ⊥ = λ e.
-      ne (sym (row_at_number a.reordered a.before row h) ∙ ap (row_at a) e ∙ low_row a 1 (omega arith)) in
-      ne_eqb (number a row) 1 other ∙ sym (ne_eqb row 1 ne))
-      (cases_eq row 1)
+      same_test
+      (λ e. sym (row_at_number a.reordered a.before row h) ∙ ap (row_at a) e ∙ low_row a 1 (omega arith))
+      (λ e. ap (number a) e ∙ quit a)
 
   pub told : (row : ℕ) → row < row_count old → (table_of m).machine.label (number a row) ≡ label_by old matches row
   told row h =
@@ -333,8 +346,7 @@ module _ {old : Layout} {matches : Matches} {x : Sorting} {new m : Layout} (s : 
       by_get : (o : Option (Vec ℕ Global)) → get nat_cmp matches (row * stride old) ≡ o
           → (if is_some o then Label.Matches (get_or (pattern_lists matches) (number a row - 2) []) else Label.Plain)
           ≡ label_of_patterns o
-      by_get None e = refl
-      by_get (Some v) e = ap Label.Matches (list_is row v e h)
+      by_get o e = search (rules, list_is, row)
 
   -- ---- what is left
 
@@ -366,7 +378,9 @@ module _ {old : Layout} {matches : Matches} {x : Sorting} {new m : Layout} (s : 
           pattern_ids = m.pattern_ids;
           special = m.special;
           accels = accels;
-        }) s.accels;
+        })
+        (s.accels ∙ ap (λ (k : Layout). k.accels) a.reordered.is
+        ∙ ap (λ (k : Layout). k.accels) a.reordered.moved.rest);
   }
 
   -- ---- soundness
@@ -470,69 +484,3 @@ module _ {old : Layout} {matches : Matches} {x : Sorting} {new m : Layout} (s : 
             All-contains (λ k. k < old.pattern_len) ks k (subst (All (λ k. k < old.pattern_len)) found.2 each) c;
       })
       refl refl (no_needles (table_of m) no_accelerated)
-
--- ---- what the call makes
-
--- by what it learns of a table and what its calls leave
-pub record IsShuffling (old : Layout) (matches : Matches) (kinds ranks rows ends : List ℕ)
-    (next new m : Layout) : Type 0 where
-  pub are : AreMatches old matches
-  pub ordered : IsOrdered nat_cmp matches
-  pub are_rows : AreRows old
-  pub are_starts : AreStarts old
-  pub kinds_are : AreKinds old (is_match_row old matches) (λ row. false) kinds
-  pub by_kind : AreByKind kinds rows ends
-  pub ranked : AreRanked kinds ranks rows
-  pub match_ranks : (row : ℕ) → row < row_count old → slice_index kinds row ≡ 2 → slice_index ranks row ≡ row
-  pub next_is : next ≡ with_patterns old (pattern_lists matches)
-  pub reordered : IsReordered rows next new
-  pub set : m ≡ record new { special = special_ids (stride new) ends true }
-
-module _ {old : Layout} {matches : Matches} {kinds ranks rows ends : List ℕ} {next new m : Layout}
-    (s : IsShuffling old matches kinds ranks rows ends next new m) where
-  abbrev pub l : Layout
-  l = with_patterns old (pattern_lists matches)
-
-  abbrev pub sorting : Sorting
-  sorting = record {
-    kinds = kinds;
-    rows = rows;
-    ends = ends;
-    marked = true;
-    matches = is_match_row old matches;
-    accelerated = λ row. false;
-  }
-
-  reordered : IsReordered rows l new
-  reordered = subst (λ k. IsReordered rows k new) s.next_is s.reordered
-
-  before : IsBefore l rows
-  before = grind (arith, common_steps, rows_kept, starts_kept)
-
-  set_is : m ≡ record new { special = special_ids (stride l) ends true }
-  set_is = s.set ∙ ap (λ w. record new { special = special_ids w ends true }) (stride_is reordered before)
-
-  plain : (row : ℕ) → is_match_row old matches row ≡ true → is_start_row old row ≡ false
-  plain row e = search (rules, false≢true, and-false, any_contains)
-
-  -- Their ranks are their numbers, and no two places have one row.
-  rise : (low high : ℕ) → low < high → high < row_count old
-      → slice_index kinds (slice_index rows low) ≡ 2 → slice_index kinds (slice_index rows high) ≡ 2
-      → slice_index rows low < slice_index rows high
-  rise low high l h first second =
-      let long = length_permutation (range_with_len 0 (row_count old)) rows before.order
-      ∙ length-range_with_len 0 (row_count old) in
-      let ranks_rise = s.ranked low high (omega arith) (omega (arith, long)) (first ∙ sym second) in
-      let below = row_below before.order low (omega arith) in
-      let behind = row_below before.order high h in
-      let apart : slice_index rows low ≡ slice_index rows high → ⊥ = λ e.
-      absurd (omega (arith, places_apart before.order low high (omega arith) h e)) in
-      omega (arith, ranks_rise, s.match_ranks _ below first, s.match_ranks _ behind second, apart)
-
-  pub is_shuffle : IsShuffle old matches sorting new m
-  is_shuffle = search (rules, ordered, before, reordered, plain, set_is, rise)
-
-  pub shuffling_ends : (kind : ℕ) → kind < 8 → slice_index ends kind * stride new ≤ max_id + stride new
-  shuffling_ends kind h =
-      subst (λ w. slice_index ends kind * w ≤ max_id + w) (sym (stride_is reordered before))
-      (ends_few old kinds rows ends s.by_kind s.kinds_are.count s.are_rows kind h)

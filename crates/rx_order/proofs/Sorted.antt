@@ -1,16 +1,14 @@
 -- Rows in order, by whose kinds it is known which match and from which a search may skip.
 use Rattle.rx_spec.proofs.Prelude.{common_steps, ◌≡◌, ℕ, ◌*◌, ◌%◌, ◌<◌, ◌≤◌, ◌&&◌, nat_lt, nat_le, Bool, true, List}
 use Rattle.rx_spec.proofs.Prelude.{length, slice_index, ap, sym, ◌∙◌, subst, ⊎_elim, arith, rules, range_with_len}
-use Rattle.rx_spec.proofs.Prelude.{IsPermutation, Option, Some, None, is_some, mod-eq_of_lt, pow_pos, cases_lt}
-use Rattle.rx_spec.proofs.Prelude.{false≢true, max_id, row_of, is_match}
+use Rattle.rx_spec.proofs.Prelude.{IsPermutation, Option, is_some, mod-eq_of_lt, pow_pos, cases_lt, false≢true, max_id}
+use Rattle.rx_spec.proofs.Prelude.{row_of, is_match}
+use Rattle.rx_order.proofs.Prelude.{AreSkippable, HaveMatches, IsId, IsId-row_id, IsRowId-row, Layout, are_needles}
+use Rattle.rx_order.proofs.Prelude.{id_few, ids_of, is_start_row, kind_by, le-mul_of_pos_right, leaving_of, row_count}
+use Rattle.rx_order.proofs.Prelude.{row_of-row, stride, table_of}
 use Rattle.std.specs.Prelude.{IsSome}
-use Rattle.std.proofs.Math.Nat.{le-mul_of_pos_right}
-use Rattle.rx_search.specs.Starts.{IsId}
-use Rattle.rx_dense.specs.Layouts.{ids_of, row_count, stride, table_of, Layout, AreRows}
-use Rattle.rx_dense.proofs.Rows.{IsId-row_id, IsRowId-row, id_few, row_of-row}
+use Rattle.rx_dense.specs.Layouts.{AreRows}
 use Rattle.rx_order.proofs.ExchangedRows.{count_of, row_below}
-use Rattle.rx_order.specs.ByKind.{AreSkippable, HaveMatches, leaving_of}
-use Rattle.rx_order.specs.RowOrder.{are_needles, is_start_row, kind_by}
 use Rattle.rx_order.proofs.KindNumbers.{between, high_accels, high_kind, high_matches, kind_high, kind_low}
 
 -- a row's id, as it is made of its number
@@ -45,8 +43,7 @@ number_few l are row h = search (rules, id_few, le-mul_of_pos_right, pow_pos)
 
 -- a test that holds is that of something
 pub some_of : {X : Type 0} (o : Option X) → is_some o ≡ true → IsSome o
-some_of None e = absurd (false≢true e)
-some_of (Some x) e = search rules
+some_of o e = grind (arith, common_steps, false≢true)
 
 module _ {l : Layout} {rows ends : List ℕ} (s : AreSkippable l rows ends) where
   pub permutation : IsPermutation (range_with_len 0 (row_count l)) rows

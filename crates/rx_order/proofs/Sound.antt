@@ -1,8 +1,8 @@
 -- Tables in order that are sound.
 use Rattle.rx_spec.proofs.Prelude.{common_steps, ◌≡◌, ℕ, ◌*◌, ◌%◌, ◌<◌, if◌then◌else◌, [], length, get_or, Option, Some}
-use Rattle.rx_spec.proofs.Prelude.{None, ap, ap₂, ◌∙◌, refl, arith, and_parts, eqb-true, ltb-true, IsSound, Table}
-use Rattle.rx_dense.specs.Layouts.{Layout, place_in_range, row_count, stride, table_of, universal_row}
-use Rattle.rx_dense.proofs.Rows.{multiple_within, row-below}
+use Rattle.rx_spec.proofs.Prelude.{ap, ap₂, ◌∙◌, refl, arith, and_parts, eqb-true, ltb-true, IsSound, Table}
+use Rattle.rx_order.proofs.Prelude.{Layout, multiple_within, place_in_range, row-below, row_count, stride, table_of}
+use Rattle.rx_order.proofs.Prelude.{universal_row}
 use Rattle.rx_order.proofs.Ordered.{IsArranged, Sorting, specials, stride_same}
 use Rattle.rx_order.proofs.KindRanges.{special_rows}
 use Rattle.rx_order.proofs.Reordered.{words_count}
@@ -25,9 +25,8 @@ some_is a b e = cc
 
 pub universal_below : (m : Layout) (whole : length m.words % stride m ≡ 0) (id : Option ℕ) (row : ℕ)
     → universal_row m id ≡ Some row → row < row_count m
-universal_below m whole None row e = absurd (cc)
-universal_below m whole (Some id) row e =
-    grind (arith, common_steps, and_parts, eqb-true, multiple_within, ltb-true, some_is, row-below)
+universal_below m whole id row e =
+    grind (arith, common_steps, whole, and_parts, eqb-true, multiple_within, ltb-true, some_is, row-below)
 
 module _ {x : Sorting} {l new m : Layout} (a : IsArranged x l new m) where
   whole : length m.words % stride m ≡ 0

@@ -1,18 +1,14 @@
 -- A table no row of which gets needles stays as it is.
+use Rattle.std.proofs.lemmas.Bool.{cases_Bool}
 use Rattle.rx_spec.proofs.Prelude.{common_steps, ◌≡◌, ℕ, zero, suc, ◌+◌, ◌*◌, ◌<◌, ◌≤◌, ◌==◌, ◌&&◌, not, nat_lt, Bool}
 use Rattle.rx_spec.proofs.Prelude.{true, false, List, [], ◌∷◌, length, filter, slice_index, refl, ap, sym, ◌∙◌, ⊎_elim}
 use Rattle.rx_spec.proofs.Prelude.{arith, if◌then◌else◌, and-false, cases_eq, cases_lt, eq-eqb, ne_eqb, or_parts}
 use Rattle.rx_spec.proofs.Prelude.{get_or-range_with_len, length-range_with_len, list_any, range_with_len, IsSound}
 use Rattle.rx_spec.proofs.Prelude.{Table, is_match, leaving}
-use Rattle.std.proofs.lemmas.List.Sorted.{IsPermutation-refl}
-use Rattle.lemmas_tables.proofs.Filters.{every_in_range, filter_alike}
-use Rattle.rx_dense.specs.Layouts.{Layout, place_in_range, row_count, stride, table_of}
-use Rattle.rx_dense.specs.Specials.{is_accel_id}
-use Rattle.rx_dense.specs.declared.special.Special.{Special}
-use Rattle.rx_order.specs.ByKind.{AreKinds, leaving_of}
-use Rattle.rx_order.specs.Ordering.{IsAccelerated}
-use Rattle.rx_order.specs.RowOrder.{AreJoined, IsInOrder, IsPlain, are_needles, is_accel_kind, is_skippable}
-use Rattle.rx_order.specs.RowOrder.{is_start_row, kind_by}
+use Rattle.rx_order.proofs.Prelude.{AreJoined, AreKinds, IsAccelerated, IsInOrder, IsPermutation-refl, IsPlain, Layout}
+use Rattle.rx_order.proofs.Prelude.{Special, are_needles, every_in_range, filter_alike, is_accel_id, is_accel_kind}
+use Rattle.rx_order.proofs.Prelude.{is_skippable, is_start_row, kind_by, leaving_of, place_in_range, row_count, stride}
+use Rattle.rx_order.proofs.Prelude.{table_of}
 use Rattle.rx_order.proofs.KindNumbers.{at_most, over}
 use Rattle.rx_order.proofs.Leaving.{last_false, leaving_is}
 
@@ -65,8 +61,7 @@ none_at p (x ∷ xs) e (suc i) h = none_at p xs (or_parts (p x) (list_any p xs) 
 -- a kind that isn't one of accelerated rows is that of a row which isn't
 plain_kind : (row : ℕ) (matches accelerated starts : Bool) → 1 < row
     → is_accel_kind (kind_by row matches accelerated starts) ≡ false → accelerated ≡ false
-plain_kind row matches false starts h e = refl
-plain_kind row matches true starts h e = grind (arith, common_steps, ne_eqb)
+plain_kind row matches accelerated starts h e = grind (arith, common_steps, cases_Bool, ne_eqb)
 
 -- no id is that of an accelerated row where none is named
 no_accel : (special : Special) (id : ℕ) → special.min_accel ≡ 0 → special.max_accel ≡ 0

@@ -1,8 +1,7 @@
 -- Each column is that of some unit.
 use Rattle.rx_spec.proofs.Prelude.{◌≡◌, ◌≢◌, ℕ, zero, suc, ◌+◌, ◌<◌, ◌≤◌, List, slice_index, sym, subst, ⊎_elim, arith}
 use Rattle.rx_spec.proofs.Prelude.{cases_eq, ne_eqb}
-use Rattle.rx_base.specs.ByteClasses.{AreClasses, alphabet_len}
-use Rattle.rx_dense.specs.Layouts.{Layout, column}
+use Rattle.rx_order.proofs.Prelude.{AreClasses, Layout, alphabet_len, column}
 
 -- each class up to that of a byte is that of some byte
 pub class_used : (classes : List ℕ) → AreClasses classes → (b class : ℕ) → b < 256 → class ≤ slice_index classes b

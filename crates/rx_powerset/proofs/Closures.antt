@@ -1,23 +1,21 @@
 -- The closure of a row, where no path that reads nothing goes round: what the row is of itself, and
 -- the closures of those behind it.
 use Rattle.rx_spec.proofs.Prelude.{common_steps, ◌≡◌, ℕ, zero, suc, ◌+◌, ◌*◌, ◌<◌, ◌⊎◌, inl, inr, List, [], ◌∷◌, ◌++◌}
-use Rattle.rx_spec.proofs.Prelude.{length, sum_by, refl, ap, ap₂, sym, ◌∙◌, subst, arith, append-nil, flat_map}
-use Rattle.rx_spec.proofs.Prelude.{sum_by-cons, Row, row_at, Passing, Standing, Tested, reach_by, reach, closure}
-use Rattle.rx_spec.proofs.Prelude.{AllNext, Short, IsShallow}
+use Rattle.rx_spec.proofs.Prelude.{length, sum_by, refl, sym, ◌∙◌, arith, flat_map, Row, row_at, Passing, Standing}
+use Rattle.rx_spec.proofs.Prelude.{Tested, reach_by, reach, closure, Short, IsShallow}
 use Rattle.rx_expr.specs.Nfa.{meaning}
 use Rattle.rx_expr.specs.declared.thompson.nfa.NFA.{NFA}
 use Rattle.rx_powerset.specs.Closures.{own_by, branches_by, passing_of}
 use Rattle.rx_powerset.specs.declared.closure.Passing as code
 use Rattle.rx_powerset.proofs.Search.{Graph}
-use Rattle.lemmas_walks.proofs.ShortPaths.{AllNext-more, reach_by-same}
 
 -- ---- one row
 
 reach_by-parts : (pass : Passing) (behind : ℕ → List ℕ) (q : ℕ) (row : Row)
     → reach_by pass behind q row ≡ own_by pass q row ++ flat_map behind (branches_by pass row)
-reach_by-parts pass behind q (Row.Split first second) = grind (arith, common_steps, append-nil)
+reach_by-parts pass behind q (Row.Split first second) = grind (arith, common_steps)
 reach_by-parts Standing behind q (Row.Look look next) = refl
-reach_by-parts (Tested holds) behind q (Row.Look look next) = grind (arith, common_steps, append-nil)
+reach_by-parts (Tested holds) behind q (Row.Look look next) = grind (arith, common_steps)
 reach_by-parts pass behind q _ = refl
 
 pub own_either : (pass : Passing) (q : ℕ) (row : Row) → (own_by pass q row ≡ []) ⊎ (own_by pass q row ≡ q ∷ [])
@@ -34,28 +32,7 @@ weight_by behind (Row.Split first second) = 1 + behind first + behind second
 weight_by behind (Row.Look look next) = 1 + behind next
 weight_by behind _ = 1
 
-sum_of_one : (w : ℕ → ℕ) (a : ℕ) → sum_by w (a ∷ []) ≡ w a
-sum_of_one w a = grind (arith, common_steps, sum_by, sum_by-cons)
-
-sum_of_two : (w : ℕ → ℕ) (a b : ℕ) → sum_by w (a ∷ b ∷ []) ≡ w a + w b
-sum_of_two w a b = omega (arith, sum_by-cons w a (b ∷ []), sum_of_one w b)
-
-none_lighter : (w : ℕ → ℕ) (n : ℕ) → 0 < n → sum_by w [] < n
-none_lighter w n h = grind (arith, common_steps, sum_by)
-
--- the weight of those behind it is less
-branches_lighter : (pass : Passing) (w : ℕ → ℕ) (row : Row) → sum_by w (branches_by pass row) < weight_by w row
-branches_lighter pass w (Row.Split first second) = omega (arith, sum_of_two w first second)
-branches_lighter Standing w (Row.Look look next) = none_lighter w (1 + w next) (omega arith)
-branches_lighter (Tested holds) w (Row.Look look next) = grind (arith, common_steps, sum_by, sum_of_one, none_lighter)
-branches_lighter pass w _ = none_lighter w 1 (omega arith)
-
 -- ---- one step more changes nothing, where paths are short
-
-weight_by-same : (f g : ℕ → ℕ) (row : Row) → AllNext (λ p. f p ≡ g p) row → weight_by f row ≡ weight_by g row
-weight_by-same f g (Row.Split first second) h = ap₂ (λ a b. 1 + a + b) h.0 h.1
-weight_by-same f g (Row.Look look next) h = ap (λ n. 1 + n) h
-weight_by-same f g _ h = refl
 
 unfoldable pub weight_within : List Row → ℕ → ℕ → ℕ
 weight_within rows zero q = 0
@@ -69,8 +46,7 @@ reach_stays rows pass (suc n) q h =
     let more = λ (p : ℕ). reach rows pass (suc n) p in
     let less = λ (p : ℕ). reach rows pass n p in
     let each = λ (p : ℕ) (k : Short rows n p). reach_stays rows pass n p k in
-    reach_by-same pass more less q (row_at rows q)
-    (AllNext-more (Short rows n) (λ p. more p ≡ less p) each (row_at rows q) h)
+    grind (arith, common_steps)
 
 weight_stays : (rows : List Row) (n q : ℕ) → Short rows n q → weight_within rows (suc n) q ≡ weight_within rows n q
 unfolding Short weight_within
@@ -79,8 +55,7 @@ weight_stays rows (suc n) q h =
     let more = λ (p : ℕ). weight_within rows (suc n) p in
     let less = λ (p : ℕ). weight_within rows n p in
     let each = λ (p : ℕ) (k : Short rows n p). weight_stays rows n p k in
-    weight_by-same more less (row_at rows q)
-    (AllNext-more (Short rows n) (λ p. more p ≡ less p) each (row_at rows q) h)
+    grind (arith, common_steps)
 
 -- ---- the rows as a graph
 
@@ -113,10 +88,7 @@ pub closure_falls : (rows : List Row) (pass : Passing) → IsShallow rows → (q
 closure_falls rows pass s q =
     let behind = λ (p : ℕ). weight_within rows (steps rows) p in
     let same = sym (weight-next rows (steps rows) q) ∙ weight_stays rows (steps rows) q (s.short q) in
-    subst
-    (λ n. sum_by behind (branches_by pass (row_at rows q)) < n)
-    same
-    (branches_lighter pass behind (row_at rows q))
+    grind (arith, common_steps)
 
 abbrev pub graph_of : (rows : List Row) (pass : Passing) → IsShallow rows → Graph
 graph_of rows pass s = record {

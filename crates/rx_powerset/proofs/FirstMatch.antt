@@ -1,27 +1,20 @@
 -- How far the first match stands in a list of rows that is gone through by an index.
-use Rattle.rx_spec.proofs.Prelude.{arith, ◌≡◌, ℕ, ◌+◌, ◌<◌, ◌≤◌, true, false, List, [], ◌∷◌, ◌++◌, length, get_or, take}
-use Rattle.rx_spec.proofs.Prelude.{drop, append_assoc, common_steps, drop_of_length-le, take_more, drop_more, Row}
-use Rattle.rx_spec.proofs.Prelude.{row_at, is_match_row, to_first_match}
-use Rattle.std.proofs.Math.ListN.{take-append-drop}
+use Rattle.rx_spec.proofs.Prelude.{arith, ◌≡◌, ℕ, ◌+◌, ◌<◌, ◌≤◌, true, false, List, [], ◌++◌, length, get_or, take}
+use Rattle.rx_spec.proofs.Prelude.{drop, common_steps, Row, row_at, is_match_row, to_first_match}
 use Rattle.lemmas_walks.proofs.FirstMatch.{first_here, first_later, first_none}
 
 -- none of the first i rows matches
 pub record IsUncut (rows : List Row) (xs : List ℕ) (i : ℕ) : Type 0 where
   pub whole : take i xs ++ to_first_match rows (drop i xs) ≡ to_first_match rows xs
 
--- the first rows and the one that is read
-split_at : (xs : List ℕ) (i : ℕ) {q : ℕ} → i < length xs → q ≡ get_or xs i q
-    → (take (i + 1) xs ≡ take i xs ++ q ∷ []) × (drop i xs ≡ q ∷ drop (i + 1) xs)
-split_at xs i {q} lt is = grind (arith, common_steps, take_more, drop_more)
-
 pub uncut_more : {rows : List Row} {xs : List ℕ} {i q : ℕ} → i < length xs → q ≡ get_or xs i q
     → is_match_row (row_at rows q) ≡ false → IsUncut rows xs i → IsUncut rows xs (i + 1)
-uncut_more {rows} {xs} {i} {q} lt is no_match uncut = grind (arith, common_steps, split_at, first_later, append_assoc)
+uncut_more {rows} {xs} {i} {q} lt is no_match uncut = grind (arith, common_steps, first_later)
 
 pub cut_here : {rows : List Row} {xs : List ℕ} {i q : ℕ} → i < length xs → q ≡ get_or xs i q
     → is_match_row (row_at rows q) ≡ true → IsUncut rows xs i → take (i + 1) xs ≡ to_first_match rows xs
-cut_here {rows} {xs} {i} {q} lt is match uncut = grind (arith, common_steps, split_at, first_here)
+cut_here {rows} {xs} {i} {q} lt is match uncut = grind (arith, common_steps, first_here)
 
 pub cut_nowhere : {rows : List Row} {xs : List ℕ} {i : ℕ} → length xs ≤ i → IsUncut rows xs i
     → xs ≡ to_first_match rows xs
-cut_nowhere {rows} {xs} {i} le uncut = grind (arith, common_steps, drop_of_length-le, first_none, take-append-drop)
+cut_nowhere {rows} {xs} {i} le uncut = grind (arith, common_steps, first_none)

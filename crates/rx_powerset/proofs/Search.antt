@@ -1,12 +1,10 @@
 -- A search of a graph with flags for what was seen lists what a recursion over the graph lists, first
 -- occurrences only.
-use Rattle.rx_spec.proofs.Prelude.{common_steps, ◌≡◌, ℕ, ◌<◌, ◌==◌, ◌⊎◌, inl, inr, Bool, true, false, List, [], ◌∷◌}
-use Rattle.rx_spec.proofs.Prelude.{◌++◌, sum_by, refl, ap, sym, ◌∙◌, subst, arith, append_assoc, append-nil, ⊎_elim}
-use Rattle.rx_spec.proofs.Prelude.{or_left, or_right, or_cases, eqb-true, eq-eqb, false_from_ne_true, list_any-append}
-use Rattle.rx_spec.proofs.Prelude.{sum_by-cons, flat_map, list_any, fresh}
-use Rattle.std.proofs.lemmas.List.Sums.{sum_by-append}
+use Rattle.rx_spec.proofs.Prelude.{common_steps, ◌≡◌, ℕ, ◌<◌, ◌==◌, ◌⊎◌, inl, Bool, true, false, List, [], ◌∷◌, ◌++◌}
+use Rattle.rx_spec.proofs.Prelude.{sum_by, refl, ap, sym, ◌∙◌, subst, arith, append_assoc, append-nil, ⊎_elim, or_left}
+use Rattle.rx_spec.proofs.Prelude.{or_right, eq-eqb, false_from_ne_true, sum_by-cons, flat_map, list_any, fresh}
 use Rattle.std.specs.List.{AllByRecursion as Every}
-use Rattle.lemmas_walks.proofs.Every.{every-append, every-weaker, flat_map-append_of}
+use Rattle.lemmas_walks.proofs.Every.{every-append, every-weaker}
 use Rattle.lemmas_walks.proofs.Firsts.{fresh_alike, fresh_new, fresh_nil, fresh_old}
 
 -- ---- membership, as the test that computes it
@@ -21,19 +19,19 @@ pub in_there : (y x : ℕ) (xs : List ℕ) → In xs x → In (y ∷ xs) x
 in_there y x xs h = or_right (x == y) (list_any (λ z. x == z) xs) h
 
 pub in_cases : (y x : ℕ) (xs : List ℕ) → In (y ∷ xs) x → (x ≡ y) ⊎ In xs x
-in_cases y x xs h = grind (arith, common_steps, eqb-true, or_cases)
+in_cases y x xs h = grind (arith, common_steps)
 
 pub in_nil : (x : ℕ) → In [] x → ⊥
 in_nil x h = cc
 
 pub in_left : (xs ys : List ℕ) (x : ℕ) → In xs x → In (xs ++ ys) x
-in_left xs ys x h = grind (arith, common_steps, list_any-append, or_left)
+in_left xs ys x h = grind (arith, common_steps)
 
 pub in_right : (xs ys : List ℕ) (x : ℕ) → In ys x → In (xs ++ ys) x
-in_right xs ys x h = grind (arith, common_steps, list_any-append, or_right)
+in_right xs ys x h = grind (arith, common_steps)
 
 pub in_split : (xs ys : List ℕ) (x : ℕ) → In (xs ++ ys) x → In xs x ⊎ In ys x
-in_split xs ys x h = grind (arith, common_steps, or_cases, list_any-append)
+in_split xs ys x h = grind (arith, common_steps)
 
 -- ---- first occurrences behind what was seen
 
@@ -43,16 +41,10 @@ fresh_skips seen [] ys h = refl
 fresh_skips seen (x ∷ xs) ys h =
     fresh_old seen (xs ++ ys) x (h x (in_here x xs)) ∙ fresh_skips seen xs ys (λ y c. h y (in_there x y xs c))
 
--- one more is seen, whether it is noted in front or behind
-noted_behind : (x : ℕ) (xs : List ℕ) (y : ℕ)
-    → list_any (λ z. y == z) (x ∷ xs) ≡ list_any (λ z. y == z) (xs ++ x ∷ [])
-noted_behind x xs y = grind (arith, common_steps, in_right, in_here, in_left, in_cases, in_there, in_nil, in_split)
-
 -- a row that is new is listed, behind what is listed already
 fresh_lists : (seen xs : List ℕ) (y : ℕ) → (In seen y → ⊥)
     → seen ++ fresh seen (y ∷ xs) ≡ (seen ++ y ∷ []) ++ fresh (seen ++ y ∷ []) xs
-fresh_lists seen xs y new =
-    grind (arith, common_steps, fresh_new, false_from_ne_true, fresh_alike, noted_behind, append_assoc)
+fresh_lists seen xs y new = grind (arith, common_steps, fresh_new, false_from_ne_true, fresh_alike)
 
 -- ---- the graph, and the search
 
@@ -126,7 +118,7 @@ module _ (g : Graph) where
   -- what the row in front and others give comes of where it leads and of them
   spread : (out ways above : List ℕ) (q : ℕ) → GivesWithin out ways q → (x : ℕ)
       → In (g.gives q ++ all above) x → In out x ⊎ In (all (ways ++ above)) x
-  spread out ways above q from x h = grind (arith, common_steps, in_left, in_right, in_split, flat_map-append_of)
+  spread out ways above q from x h = grind (arith, common_steps, in_left)
 
   -- what waits in front of it gives way to where the row in front leads
   turned : {out rest : List ℕ} {p q : ℕ} (ways more : List ℕ) → GivesWithin (out ++ more) ways q
@@ -135,13 +127,7 @@ module _ (g : Graph) where
     where
       go : (above below : List ℕ) → q ∷ rest ≡ above ++ below → AllLighter p above → GivesWithin out above p
           → Listed (out ++ more) (ways ++ rest) p
-      go [] below split lighter given = record {
-        above = [];
-        below = ways ++ rest;
-        split = refl;
-        lighter = tt;
-        given = λ x h. ⊎_elim (λ a. inl (in_left out more x a)) (λ b. absurd (in_nil x b)) (given x h);
-      }
+      go [] below split lighter given = grind (arith, common_steps)
       go (a ∷ above) below split lighter given =
           let same : q ≡ a = cc in
           let others : rest ≡ above ++ below = cc in
@@ -187,10 +173,7 @@ module _ (g : Graph) where
   whole_turned : (out rest : List ℕ) (q : ℕ) → (In out q → ⊥)
       → out ++ fresh out (g.gives q ++ all rest)
       ≡ (out ++ g.own q) ++ fresh (out ++ g.own q) (all (g.branches q ++ rest))
-  whole_turned out rest q new = grind (arith, common_steps, append_assoc, flat_map-append_of, append-nil, fresh_lists)
-
-  own_self : (q x : ℕ) → In (g.own q) x → x ≡ q
-  own_self q x h = grind (arith, common_steps, in_nil, in_cases)
+  whole_turned out rest q new = grind (arith, common_steps, append_assoc, fresh_lists)
 
   -- A row that is new is noted as seen, and gives way to where it leads.
   pub search_turns : {target : List ℕ} {seen then : ℕ → Bool} {out rest : List ℕ} {q : ℕ} → seen q ≡ false
@@ -213,31 +196,10 @@ module _ (g : Graph) where
       unlisted h = let old : seen q ≡ true = s.noted q h in cc
 
       noted : (x : ℕ) → In (out ++ g.own q) x → then x ≡ true
-      noted x h =
-          ⊎_elim
-          (λ o. notes.stays x (s.noted x o))
-          (λ o. subst (λ v. then v ≡ true) (sym (own_self q x o)) notes.now)
-          (in_split out (g.own q) x h)
+      noted x h = grind (arith, common_steps)
 
       from : GivesWithin (out ++ g.own q) (g.branches q) q
-      from x h =
-          ⊎_elim
-          (λ o. inl (in_right out (g.own q) x o))
-          (λ b. inr b)
-          (in_split (g.own q) (all (g.branches q)) x (subst (λ l. In l x) (g.unfolds q) h))
+      from x h = grind (arith, common_steps)
 
       here : (p : ℕ) → p ≡ q → Listed (out ++ g.own q) (g.branches q ++ rest) p
-      here p e = subst (Listed (out ++ g.own q) (g.branches q ++ rest)) (sym e) (record {
-        above = g.branches q;
-        below = rest;
-        split = refl;
-        lighter = light;
-        given = from;
-      })
-
-  -- Either way less weight waits.
-  pub passes_falls : (rest : List ℕ) (q : ℕ) → sum_by g.weight rest < sum_by g.weight (q ∷ rest)
-  passes_falls rest q = omega (arith, sum_by-cons g.weight q rest, g.falls q)
-
-  pub turns_falls : (rest : List ℕ) (q : ℕ) → sum_by g.weight (g.branches q ++ rest) < sum_by g.weight (q ∷ rest)
-  turns_falls rest q = grind (arith, common_steps, sum_by-cons, sum_by-append)
+      here p e = grind (arith, common_steps, light)

@@ -1,12 +1,10 @@
 -- One turn of the search, with an ordered set of what was seen and a stack of what waits.
 use Rattle.rx_spec.proofs.Prelude.{common_steps, ◌≡◌, ℕ, Bool, true, false, not, List, [], ◌∷◌, ◌++◌, sum_by, ◌<◌}
-use Rattle.rx_spec.proofs.Prelude.{reverse, length, ap, sym, ◌∙◌, subst, arith, nat_tests, nil_from_length, is_at}
-use Rattle.rx_spec.proofs.Prelude.{nat_cmp, not-false, not-true}
+use Rattle.rx_spec.proofs.Prelude.{reverse, length, ap, sym, ◌∙◌, subst, arith, nil_from_length, nat_cmp, not-false}
+use Rattle.rx_spec.proofs.Prelude.{not-true}
 use Rattle.std.proofs.lemmas.List.{reverse-append}
 use Rattle.std.specs.BTreeSet.{BTreeSet, contains, Updates}
-use Rattle.lemmas_walks.proofs.Firsts.{by_test}
-use Rattle.rx_powerset.proofs.Search.{Graph, Notes, Searching, search_passes, search_turns, search_ends, passes_falls}
-use Rattle.rx_powerset.proofs.Search.{turns_falls}
+use Rattle.rx_powerset.proofs.Search.{Graph, Notes, Searching, search_passes, search_turns, search_ends}
 
 -- the last of the stack is the first of those that wait
 pub popped : (rest : List ℕ) {old : List ℕ} {id : ℕ} → old ≡ rest ++ id ∷ [] → reverse old ≡ id ∷ reverse rest
@@ -17,11 +15,8 @@ popped rest {id = id} e = ap (λ l. reverse l) e ∙ reverse-append rest (id ∷
 abbrev pub has : BTreeSet ℕ → ℕ → Bool
 has s x = contains nat_cmp s x
 
-at_other : (k q : ℕ) → is_at (nat_cmp k) q ≡ true → q ≡ k
-at_other k q h = grind (arith, nat_tests)
-
 notes : (seen then : BTreeSet ℕ) (id : ℕ) → Updates nat_cmp seen then id true → Notes (has seen) (has then) id
-notes seen then id u = grind (arith, common_steps, by_test, at_other)
+notes seen then id u = grind (arith, common_steps)
 
 -- ---- a turn, at the first of those that wait
 
@@ -51,11 +46,11 @@ module _ (g : Graph) where
   -- less weight waits
   pub passed_falls : {before others : List ℕ} {id : ℕ} → before ≡ id ∷ others
       → sum_by g.weight others < sum_by g.weight before
-  passed_falls {others = others} {id = id} e = grind (arith, common_steps, sum_by, passes_falls)
+  passed_falls {others = others} {id = id} e = grind (arith, common_steps)
 
   pub met_falls : {before others after : List ℕ} {id : ℕ} → before ≡ id ∷ others
       → after ≡ g.branches id ++ others → sum_by g.weight after < sum_by g.weight before
-  met_falls {others = others} {id = id} e left = grind (arith, common_steps, sum_by, turns_falls)
+  met_falls {others = others} {id = id} e left = grind (arith, common_steps)
 
   -- nothing waits
   pub stopped : (waiting : List ℕ) {target out : List ℕ} {len : ℕ} {seen : ℕ → Bool} → len ≡ length waiting

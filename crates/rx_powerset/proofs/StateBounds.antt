@@ -6,7 +6,6 @@ use Rattle.rx_spec.proofs.Prelude.{to_first_match, cut, pattern_of, firsts}
 use Rattle.std.proofs.lemmas.Map.Steps.{length-le_from_distinct_below}
 use Rattle.std.specs.List.{AllByRecursion as Every}
 use Rattle.rx_spec.specs.declared.MatchKind.{MatchKind}
-use Rattle.lemmas_walks.proofs.Every.{every-append}
 use Rattle.lemmas_walks.proofs.Firsts.{Contains-here, Contains-there, Apart, Apart-fresh}
 use Rattle.rx_powerset.proofs.Search.{In, in_nil, in_cases}
 
@@ -38,7 +37,7 @@ few_firsts {ys} xs n e h =
 
 pub few_more : {q : ℕ} {more own : List ℕ} (n : ℕ) (out : List ℕ) → q < n → (own ≡ []) ⊎ (own ≡ q ∷ [])
     → more ≡ out ++ own → Every (λ x. x < n) out → Every (λ x. x < n) more
-few_more {q} {own = own} n out lt is e h = grind (arith, common_steps, every-append)
+few_more {q} {own = own} n out lt is e h = grind (arith, common_steps)
 
 -- ---- patterns
 

@@ -1,11 +1,11 @@
 -- States of the code are equal, and of one rank, exactly where their parts are equal.
-use Rattle.rx_spec.proofs.Prelude.{arith, ◌≡◌, ℕ, Bool, true, false, List, refl, ap, sym, ◌∙◌, common_steps, and_parts}
-use Rattle.rx_spec.proofs.Prelude.{nat_cmp, is_eq, Facts, State}
+use Rattle.rx_spec.proofs.Prelude.{arith, ◌≡◌, ℕ, true, List, ap, sym, ◌∙◌, common_steps, and_parts, nat_cmp, is_eq}
+use Rattle.rx_spec.proofs.Prelude.{Facts, State}
 use Rattle.std.proofs.Common.{Equal}
 use Rattle.std.proofs.lemmas.Cmp.{tied_itself, nat_list_cmp_total}
 use Rattle.std.specs.Cmp.{tied_then}
 use Rattle.std.specs.Cmp.Lexicographic.{slice_cmp, same_text, texts_ties}
-use Rattle.std.specs.Ordering.{ordering_then, bool_cmp}
+use Rattle.std.specs.Ordering.{ordering_then}
 use Rattle.std.specs.declared.cmp.Ordering.{Ordering}
 use Rattle.rx_powerset.specs.PowerState.{state_of}
 use Rattle.rx_powerset.specs.Ranks.{facts_rank, rank}
@@ -16,12 +16,6 @@ use Rattle.rx_powerset.specs.contracts.state.PowerStateOrd.TheImpl.Laws as the_l
 
 -- ---- what compares as equal
 
-bool_tied : (x y : Bool) → is_eq (bool_cmp x y) ≡ true → x ≡ y
-bool_tied true true h = refl
-bool_tied true false h = cc
-bool_tied false true h = cc
-bool_tied false false h = refl
-
 then_tied : (a b : Ordering) → is_eq (ordering_then a b) ≡ true → (is_eq a ≡ true) × (is_eq b ≡ true)
 then_tied a b h = and_parts (is_eq a) (is_eq b) (tied_then a b ∙ h)
 
@@ -29,7 +23,7 @@ list_tied : (xs ys : List ℕ) → is_eq (slice_cmp nat_cmp xs ys) ≡ true → 
 list_tied xs ys h = same_text xs ys (sym (texts_ties xs ys ∙ h))
 
 facts_tied : (x y : Facts) → is_eq (facts_rank x y) ≡ true → x ≡ y
-facts_tied x y h = grind (arith, common_steps, then_tied, bool_tied)
+facts_tied x y h = grind (arith, common_steps, then_tied)
 
 -- states of one rank are equal
 rank_tied : (s t : State) → is_eq (rank s t) ≡ true → s ≡ t
@@ -44,18 +38,11 @@ rank_tied s t h =
 
 -- ---- what is equal compares so
 
-bool_itself : (x : Bool) → bool_cmp x x ≡ Equal
-bool_itself true = refl
-bool_itself false = refl
-
 list_itself : (xs : List ℕ) → slice_cmp nat_cmp xs xs ≡ Equal
 list_itself xs = tied_itself nat_list_cmp_total xs
 
-facts_itself : (x : Facts) → facts_rank x x ≡ Equal
-facts_itself x = simp bool_itself
-
 rank_itself : (s : State) → rank s s ≡ Equal
-rank_itself s = grind (arith, common_steps, list_itself, facts_itself)
+rank_itself s = grind (arith, common_steps, list_itself)
 
 same_rank : (s t : State) → s ≡ t → rank s t ≡ Equal
 same_rank s t e = ap (λ (r : State). rank s r) (sym e) ∙ rank_itself s

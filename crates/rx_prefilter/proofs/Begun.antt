@@ -35,13 +35,7 @@ module _ (hay literal : List ℕ) (from : ℕ) where
     begun_on =
         let room = m.begun.few in
         let few = l.ends.few in
-        record {
-          few = omega arith;
-          reads = λ i h.
-              ⊎_elim (λ (more : i + 1 < j). read_before i more)
-              (λ (last : j ≤ i + 1). read_last i (omega arith))
-              (cases_lt (i + 1) j);
-        }
+        grind (arith, common_steps, read_before, read_last)
 
     -- what ends there begins a byte earlier
     earlier : (i : ℕ) → Begun hay literal from (to + 1) (i + 1) → Begun hay literal from to i

@@ -1,10 +1,10 @@
 -- Searches with a pair of tables that search for one literal.
 use Rattle.rx_spec.proofs.Prelude.{common_steps, ◌≡◌, ℕ, ◌+◌, ◌-◌, ◌<◌, ◌≤◌, ◌==◌, ◌||◌, Bool, true, false, List}
 use Rattle.rx_spec.proofs.Prelude.{length, slice_index, Option, Some, None, Ok, Err, if◌then◌else◌, ap, refl, sym, ◌∙◌}
-use Rattle.rx_spec.proofs.Prelude.{subst, arith, IfSome, eq-eqb, eqb-true, false_from_ne_true, ltb-true, AreBytes}
-use Rattle.rx_spec.proofs.Prelude.{beside, half_search, whole_walk, Answer, back_from, match_at, with_end, with_start}
-use Rattle.rx_spec.proofs.Prelude.{Anchored, HalfMatch, IsFit, MatchError, Query, is_anchored, is_done, half_unsplit}
-use Rattle.rx_spec.proofs.Prelude.{skips_splits, start_error, start_row, IsSound, Table}
+use Rattle.rx_spec.proofs.Prelude.{subst, arith, IfSome, eq-eqb, eqb-true, false_from_ne_true, AreBytes, beside}
+use Rattle.rx_spec.proofs.Prelude.{half_search, whole_walk, Answer, back_from, match_at, with_end, with_start, Anchored}
+use Rattle.rx_spec.proofs.Prelude.{HalfMatch, IsFit, MatchError, Query, is_anchored, is_done, half_unsplit}
+use Rattle.rx_spec.proofs.Prelude.{skips_splits, start_error, start_row, IsSound, Table, cases_Bool, inl, inr}
 use Rattle.rx_spec.specs.declared.Direction.{Direction}
 use Rattle.memchr.specs.Find.{OccursAt}
 use Rattle.lemmas_walks.proofs.ReadUnits.{beside_is_byte}
@@ -91,23 +91,17 @@ module _ {f r : Table} {literal : List ℕ} {pattern start before : ℕ} {at : �
   forward_walks goes = walked forward.started Direction.Forward q bytes mode goes
 
   pub forward_none : IsFirstPlace q.haystack literal q.start q.end None → half_unsplit f Direction.Forward q ≡ Ok None
-  forward_none none = by_done (is_done q) refl
-    where
-      by_done : (done : Bool) → is_done q ≡ done → half_unsplit f Direction.Forward q ≡ Ok None
-      by_done true done = none_done forward.started Direction.Forward q bytes mode done
-      by_done false goes =
-          forward_walks goes
-          ∙ nowhere forward.started.sound forward.is_literal forward.below bytes (first_place goes)
-          (λ end high b.
-          none (end - len) (omega arith) (omega arith) (read_there high b))
+  forward_none none = elim (cases_Bool (is_done q)) [
+    | inl done ↦ none_done forward.started Direction.Forward q bytes mode done
+    | inr goes ↦
+        forward_walks goes
+        ∙ nowhere forward.started.sound forward.is_literal forward.below bytes (first_place goes)
+        (λ end high b. none (end - len) (omega arith) (omega arith) (read_there high b))
+  ]
 
   module _ {place : ℕ} (is : IsFirstPlace q.haystack literal q.start q.end (Some place)) where
     goes : is_done q ≡ false
     goes = grind (arith, common_steps)
-      where
-        by_done : (done : Bool) → is_done q ≡ done → q.start ≤ q.end → is_done q ≡ false
-        by_done true e order = absurd (let past = ltb-true q.end q.start e in omega arith)
-        by_done false e order = e
 
     lies : Lies q literal place
     lies = grind (arith, common_steps)
@@ -202,11 +196,7 @@ module _ {f r : Table} {literal : List ℕ} {pattern start before : ℕ} {at : �
     lies_back = grind (arith, common_steps)
 
     back_goes : is_done back ≡ false
-    back_goes = by_done (is_done back) refl
-      where
-        by_done : (done : Bool) → is_done back ≡ done → is_done back ≡ false
-        by_done true e = grind (arith, common_steps)
-        by_done false e = e
+    back_goes = grind (arith, common_steps)
 
     pub reverse_found : half_unsplit r Direction.Reverse back
         ≡ Ok (Some (record { pattern = pattern; offset = place }))

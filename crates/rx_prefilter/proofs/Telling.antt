@@ -1,6 +1,6 @@
 -- Walks that tell one match at a row.
 use Rattle.rx_spec.proofs.Prelude.{common_steps, ◌≡◌, ℕ, ◌<◌, Bool, true, false, Ok, None, Some, List, [], ◌∷◌, length}
-use Rattle.rx_spec.proofs.Prelude.{if◌then◌else◌, ap, ap₂, refl, sym, ◌∙◌, ◌==◌, arith, length-append, slice_index}
+use Rattle.rx_spec.proofs.Prelude.{if◌then◌else◌, ap, refl, sym, ◌∙◌, ◌==◌, arith, length-append, slice_index}
 use Rattle.rx_spec.proofs.Prelude.{false_from_ne_true, eqb-true, AreBytes, unit_of, HalfAnswer, at_label, last_match}
 use Rattle.rx_spec.proofs.Prelude.{next_offset, span_bytes, units_of, walk, after, IsWord, Label, HalfMatch, Query}
 use Rattle.rx_spec.proofs.Prelude.{Table, is_match}
@@ -53,12 +53,7 @@ module _ {t : Table} {row pattern : ℕ} (s : Standing t row) (tells : Tells t r
   behind : (offset : ℕ) (last : HalfMatch) (units : List ℕ) → IsWord units
       → walk t.machine direction earliest tells.told offset (Some last) units ≡ Ok (Some last)
   behind offset last [] word = walk-nil t.machine direction earliest tells.told offset (Some last)
-  behind offset last (unit ∷ units) word =
-      walk-cons t.machine direction earliest tells.told unit offset (Some last) units
-      ∙ ap (λ (r : ℕ). turn unit offset last units r (t.machine.label r) (t.machine.is_dead r))
-      (tells.is_final.to_dead unit (IsWord-head unit units word))
-      ∙ ap₂ (turn unit offset last units 0) s.sound.is_table.dead_label
-      (s.sound.is_table.dead_only 0 (omega arith))
+  behind offset last (unit ∷ units) word = grind (arith, common_steps, walk-cons, IsWord-head)
 
   abbrev met : ℕ → HalfMatch
   met offset = record { pattern = pattern; offset = offset }

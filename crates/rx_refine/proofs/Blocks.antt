@@ -1,15 +1,12 @@
 -- The blocks of a partition: where they begin, which rows they have, and that they are at most as many as the rows.
-use Rattle.std.proofs.lemmas.Grind.{common_steps}
-use Rattle.std.proofs.Common.{◌≡◌, ℕ, zero, suc, ◌+◌, ◌-◌, ◌<◌, ◌≤◌, true, false, List, ◌∷◌, length, get_or, eqb, sym}
-use Rattle.std.proofs.Common.{ap, ◌∙◌, arith, eqb-true, eq-eqb, ne_eqb, length-take, length-drop, inl, inr}
-use Rattle.std.specs.List.{list_any, Contains, All, slice_range}
-use Rattle.std.proofs.lemmas.Bool.{cases_Bool, cases_lt, cases_eq}
-use Rattle.std.proofs.lemmas.List.{get_or_default}
-use Rattle.std.proofs.lemmas.List.Folds.{list_any_at}
+use Rattle.std.proofs.Common.{rules}
+use Rattle.rx_refine.proofs.Prelude.{All, Contains, Contains-from_any, IsPartition, List, Parts, ap, arith, block_of}
+use Rattle.rx_refine.proofs.Prelude.{cases_Bool, cases_eq, cases_lt, common_steps, eq-eqb, eqb, eqb-true, false, get_or}
+use Rattle.rx_refine.proofs.Prelude.{get_or_default, inl, inr, is_in, length, length-drop, length-take, list_any}
+use Rattle.rx_refine.proofs.Prelude.{list_any_at, ne_eqb, size_of, slice_range, sym, true, ℕ, ◌+◌, ◌-◌, ◌<◌, ◌∙◌, ◌∷◌}
+use Rattle.rx_refine.proofs.Prelude.{◌≡◌, ◌≤◌}
 use Rattle.std.proofs.lemmas.Map.Steps.{length-le_from_distinct_below}
 use Rattle.std.proofs.lemmas.Map.Keys.{IsDistinct-from_apart}
-use Rattle.std.proofs.lemmas.Map.Views.{Contains-from_any}
-use Rattle.rx_refine.specs.Parts.{Parts, IsPartition, block_of, size_of, is_in}
 
 -- where a block begins, and how many of its rows are marked
 abbrev pub start_of : Parts → ℕ → ℕ
@@ -72,11 +69,7 @@ module _ {p : Parts} (w : IsPartition p) where
 
   with_apart : (place : ℕ) → ((k : ℕ) → k < length p.starts → start_of p k ≡ place → ⊥) → (i j d : ℕ) → i < j
       → j < length (place ∷ p.starts) → eqb (get_or (place ∷ p.starts) i d) (get_or (place ∷ p.starts) j d) ≡ false
-  with_apart place free i zero d l h = absurd (omega arith)
-  with_apart place free zero (suc j) d l h =
-      ne_eqb place (get_or p.starts j d)
-      (λ e. free j (omega arith) (get_or_default p.starts j 0 d (omega arith) ∙ sym e))
-  with_apart place free (suc i) (suc j) d l h = starts_apart i j d (omega arith) (omega arith)
+  with_apart place free i j d l h = search (rules, ne_eqb, p.starts, get_or_default, starts_apart)
 
   with_small : (place : ℕ) → place < length p.rows → (q : ℕ) → list_any (eqb q) (place ∷ p.starts) ≡ true
       → q < length p.rows
@@ -131,8 +124,7 @@ module _ {p : Parts} (w : IsPartition p) {b : ℕ} (hb : b < length p.sizes) whe
       let h : i < size_of p b = omega arith in
       let len = members_len in
       let back : start_of p b + i ≡ place_of p row = omega arith in
-      let is : get_or (members p b) i 0 ≡ row =
-      members_at i 0 h ∙ ap (λ n. row_at p n) back ∙ w.permuted.row_of_place row l in
+      let is : get_or (members p b) i 0 ≡ row = grind (arith, common_steps, members_at, w.permuted.row_of_place) in
       list_any_at (eqb row) (members p b) i 0 (omega arith) (eq-eqb row (get_or (members p b) i 0) (sym is))
 
   pub is_in_members : (row : ℕ) → row < length p.rows → is_in (members p b) row ≡ eqb (block_of p row) b

@@ -1,12 +1,8 @@
 -- Rows vote for their keys: of two rows with different keys neither is counted, so a key that more than
 -- half of the rows have is left over.
-use Rattle.std.proofs.Common.{rules, ◌≡◌, ℕ, ◌+◌, ◌-◌, ◌*◌, ◌<◌, ◌≤◌, true, List, length, get_or, take, take_all, eqb}
-use Rattle.std.proofs.Common.{refl, sym, arith, inl, inr}
-use Rattle.std.proofs.lemmas.Grind.{common_steps}
-use Rattle.std.proofs.lemmas.Bool.{cases_eq}
-use Rattle.std.proofs.lemmas.List.Folds.{list_any_kept}
-use Rattle.rx_refine.specs.Parts.{is_in}
-use Rattle.rx_refine.specs.Numbers.{how_many_have}
+use Rattle.rx_refine.proofs.Prelude.{List, arith, cases_eq, common_steps, eqb, get_or, how_many_have, inl, inr, is_in}
+use Rattle.rx_refine.proofs.Prelude.{length, list_any_kept, refl, rules, sym, take, take_all, true, ℕ, ◌*◌, ◌+◌, ◌-◌}
+use Rattle.rx_refine.proofs.Prelude.{◌<◌, ◌≡◌, ◌≤◌}
 
 have_same : (members keys : List ℕ) (key i : ℕ) → i < length members → get_or keys (get_or members i 0) 0 ≡ key
     → how_many_have keys key (take (i + 1) members) ≡ how_many_have keys key (take i members) + 1

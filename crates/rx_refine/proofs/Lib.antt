@@ -1,3 +1,5 @@
+-- what proofs take from other modules
+pub mod Prelude
 -- numbers below a bound: the places of a value in a list, and sums
 pub mod Places
 pub mod Totals

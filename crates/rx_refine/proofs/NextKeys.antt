@@ -1,14 +1,8 @@
 -- Keys that are given to the rows of a list, one after another, and to the sources of one row after another.
-use Rattle.std.proofs.Common.{rules, ◌≡◌, ℕ, zero, suc, ◌+◌, ◌<◌, ◌≤◌, cond, List, length, get_or, take, take_all, ltb}
-use Rattle.std.proofs.Common.{refl, sym, ap, arith, le-leb, inl, inr}
-use Rattle.std.proofs.lemmas.Grind.{common_steps}
-use Rattle.std.specs.List.{All}
-use Rattle.std.proofs.lemmas.Bool.{cases_eq}
-use Rattle.std.proofs.lemmas.List.{get_or_default}
-use Rattle.std.proofs.Math.Numerals.{suc-eq-add-one}
-use Rattle.rx_refine.specs.Moves.{Moves, AreMoves, column, sources, next_row}
-use Rattle.rx_refine.specs.Parts.{Parts, IsPartition, is_in}
-use Rattle.rx_refine.specs.Keys.{total, waiting_cost, waiting_reads, next_key, AreNextKeys}
+use Rattle.rx_refine.proofs.Prelude.{All, AreMoves, AreNextKeys, IsPartition, List, Moves, Parts, ap, arith, cases_eq}
+use Rattle.rx_refine.proofs.Prelude.{column, common_steps, cond, get_or, get_or_default, inl, inr, is_in, le-leb}
+use Rattle.rx_refine.proofs.Prelude.{length, ltb, next_key, next_row, refl, rules, sources, suc, suc-eq-add-one, sym}
+use Rattle.rx_refine.proofs.Prelude.{take, take_all, total, waiting_cost, waiting_reads, zero, ℕ, ◌+◌, ◌<◌, ◌≡◌, ◌≤◌}
 use Rattle.rx_refine.proofs.Blocks.{blocks_few}
 use Rattle.rx_refine.proofs.Sources.{is_in-places_of}
 

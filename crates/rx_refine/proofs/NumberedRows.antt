@@ -1,15 +1,8 @@
 -- The rows of a block get numbers by their keys.
-use Rattle.std.proofs.lemmas.Grind.{common_steps}
-use Rattle.std.proofs.Common.{◌≡◌, ℕ, ◌+◌, ◌*◌, ◌<◌, ◌≤◌, true, false, List, length, get_or, set, take, take_all, refl}
-use Rattle.std.proofs.Common.{sym, subst, ap, ◌∙◌, arith, eqb-true, length-set, get_or-set_same, get_or-set_other, inl}
-use Rattle.std.proofs.Common.{inr}
-use Rattle.std.specs.List.{All}
-use Rattle.std.proofs.lemmas.Bool.{cases_eq}
-use Rattle.std.proofs.lemmas.List.{get_or_default}
-use Rattle.std.proofs.lemmas.List.Elements.{All-contains}
-use Rattle.std.proofs.lemmas.Map.Views.{Contains-from_any}
-use Rattle.rx_refine.specs.Parts.{is_in}
-use Rattle.rx_refine.specs.Numbers.{how_many_have, NumbersRows}
+use Rattle.rx_refine.proofs.Prelude.{All, All-contains, Contains-from_any, List, NumbersRows, ap, arith, cases_eq}
+use Rattle.rx_refine.proofs.Prelude.{common_steps, eqb-true, false, get_or, get_or-set_other, get_or-set_same}
+use Rattle.rx_refine.proofs.Prelude.{get_or_default, how_many_have, inl, inr, is_in, length, length-set, refl, set}
+use Rattle.rx_refine.proofs.Prelude.{subst, sym, take, take_all, true, ℕ, ◌*◌, ◌+◌, ◌<◌, ◌∙◌, ◌≡◌, ◌≤◌}
 use Rattle.rx_refine.proofs.LeadingKey.{is_in_next, is_in_kept}
 
 -- a row is taken in this turn or was taken before
@@ -84,14 +77,11 @@ module _ {job : Job} {i : ℕ} {names blocks : List ℕ} {count : ℕ} (l : i < 
   module _ (ne : key_at job i ≡ job.kept → ⊥) (hr : row_at job i < length blocks) where
     blocks_others : (v x : ℕ) → is_in (take (i + 1) job.members) x ≡ false
         → get_or (set blocks (row_at job i) v) x 0 ≡ get_or job.old x 0
-    blocks_others v x f =
-        get_or-set_other blocks (row_at job i) x v 0 (not_next job.members i x l f)
-        ∙ a.others x (not_before job.members i x f)
+    blocks_others v x f = grind (arith, common_steps, get_or-set_other, not_next, job.members, a.others, not_before)
 
     blocks_same : (v x : ℕ) → get_or job.keys x 0 ≡ job.kept
         → get_or (set blocks (row_at job i) v) x 0 ≡ get_or job.old x 0
-    blocks_same v x e =
-        get_or-set_other blocks (row_at job i) x v 0 (λ s. ne (ap (λ n. get_or job.keys n 0) (sym s) ∙ e)) ∙ a.same x e
+    blocks_same v x e = grind (arith, common_steps, get_or-set_other, job.keys, a.same)
 
     -- the next row's key has a number
     pub numbered_again : job.first ≤ get_or names (key_at job i) 0
@@ -139,67 +129,61 @@ module _ {job : Job} {i : ℕ} {names blocks : List ℕ} {count : ℕ} (l : i < 
 
       -- a key that has a number isn't the next row's
       not_own : (j : ℕ) → job.first ≤ get_or names j 0 → j ≡ key_at job i → ⊥
-      not_own j f e =
-          let s : get_or names j 0 ≡ get_or names (key_at job i) 0 = ap (λ n. get_or names n 0) e in omega arith
+      not_own j f e = grind (arith, common_steps)
 
       new_named : All (λ name. name < count + 1) (named job i names count)
-      new_named j d h =
-          let h2 : j < length names = rw length-set at h in
-          elim (cases_eq j (key_at job i)) [
-            | inl e ↦ rw (e, name_own d) (omega arith)
-            | inr n ↦ rw (name_other j d n) (let s = a.names_below j d h2 in omega arith)
-          ]
+      new_named j d h = grind (arith, common_steps, length-set, cases_eq, name_own, name_other, a.names_below)
 
       new_apart : (j k : ℕ) → j < length names → k < length names → job.first ≤ get_or (named job i names count) j 0
           → get_or (named job i names count) j 0 ≡ get_or (named job i names count) k 0 → j ≡ k
       new_apart j k hj hk' f e =
           elim (cases_eq j (key_at job i)) [
-            | inl ej ↦ elim (cases_eq k (key_at job i)) [
-              | inl ek ↦ ej ∙ sym ek
-              | inr nk ↦
-                  let s : count ≡ get_or names k 0 =
-                  sym (name_own 0) ∙ ap (λ n. get_or (named job i names count) n 0) (sym ej) ∙ e ∙ name_other k 0 nk in
-                  absurd (let b = a.names_below k 0 hk' in omega arith)
-            ]
-            | inr nj ↦ elim (cases_eq k (key_at job i)) [
-              | inl ek ↦
-                  let s : get_or names j 0 ≡ count =
-                  sym (name_other j 0 nj) ∙ e ∙ ap (λ n. get_or (named job i names count) n 0) ek ∙ name_own 0 in
-                  absurd (let b = a.names_below j 0 hj in omega arith)
-              | inr nk ↦
-                  a.apart j k hj hk' (rw (name_other j 0 nj) at f) (sym (name_other j 0 nj) ∙ e ∙ name_other k 0 nk)
-            ]
+            | inl ej ↦ grind (arith, common_steps, cases_eq, name_own, name_other, a.names_below)
+            | inr nj ↦ grind (arith, common_steps, cases_eq, name_other, name_own, a.names_below, a.apart)
           ]
 
       new_has_name : (x : ℕ) → is_in (take (i + 1) job.members) x ≡ true → (get_or job.keys x 0 ≡ job.kept → ⊥)
           → job.first ≤ get_or (named job i names count) (get_or job.keys x 0) 0
       new_has_name x t n =
-          elim (cases_eq x (row_at job i)) [
-            | inl e ↦ rw (e, name_own 0) a.rising
-            | inr d ↦
-                let b = a.has_name x (taken_before job.members i x l t d) n in
-                rw (name_other (get_or job.keys x 0) 0 (not_own (get_or job.keys x 0) b)) b
-          ]
+          grind (
+            arith,
+            common_steps,
+            cases_eq,
+            name_own,
+            a.rising,
+            a.has_name,
+            taken_before,
+            job.members,
+            name_other,
+            job.keys,
+            not_own,
+          )
 
       new_numbered : (x : ℕ) → is_in (take (i + 1) job.members) x ≡ true → (get_or job.keys x 0 ≡ job.kept → ⊥)
           → get_or (set blocks (row_at job i) count) x 0 ≡ get_or (named job i names count) (get_or job.keys x 0) 0
       new_numbered x t n =
-          elim (cases_eq x (row_at job i)) [
-            | inl e ↦ rw (e, name_own 0) (get_or-set_same blocks (row_at job i) count 0 hr)
-            | inr d ↦
-                let b = taken_before job.members i x l t d in
-                get_or-set_other blocks (row_at job i) x count 0 d
-                ∙ a.numbered x b n
-                ∙ sym (name_other (get_or job.keys x 0) 0 (not_own (get_or job.keys x 0) (a.has_name x b n)))
-          ]
+          grind (
+            arith,
+            common_steps,
+            cases_eq,
+            name_own,
+            get_or-set_same,
+            taken_before,
+            job.members,
+            get_or-set_other,
+            a.numbered,
+            name_other,
+            job.keys,
+            not_own,
+            a.has_name,
+          )
 
       new_used : (number : ℕ) → job.first ≤ number → number < count + 1
           → (x : ℕ) × (is_in (take (i + 1) job.members) x ≡ true) × (get_or job.keys x 0 ≡ job.kept → ⊥)
           × (get_or (set blocks (row_at job i) count) x 0 ≡ number)
       new_used number f h =
           elim (cases_eq number count) [
-            | inl e ↦
-                (row_at job i, is_in_next job.members i l, ne, get_or-set_same blocks (row_at job i) count 0 hr ∙ sym e)
+            | inl e ↦ grind (arith, common_steps, is_in_next, job.members, get_or-set_same)
             | inr n ↦
                 let u = a.used number f (omega arith) in
                 let d : u.0 ≡ row_at job i → ⊥ =

@@ -1,17 +1,12 @@
 -- How many reads there are. For a unit the allowance of a row is the size of its block where that waits
 -- for the unit, and half of it where it doesn't. Where the unit takes a block, the allowance of each of
 -- its rows has one binary digit less; a split raises none.
-use Rattle.std.proofs.Common.{rules, ◌≡◌, ℕ, zero, suc, ◌+◌, ◌*◌, ◌/◌, ◌^◌, ◌<◌, ◌≤◌, cond, List, length, get_or, set}
-use Rattle.std.proofs.Common.{eqb, leb, refl, sym, ap, ◌∙◌, arith, eq-eqb, ne_eqb, mul-le-mul_right, pow_pos}
-use Rattle.std.proofs.Common.{get_or-set_same, get_or-set_other, inl, inr}
-use Rattle.std.proofs.lemmas.Grind.{common_steps}
-use Rattle.std.specs.List.{sum_by}
-use Rattle.std.proofs.lemmas.Bool.{cases_eq}
-use Rattle.std.proofs.lemmas.Int.Digits.{length-digits_of_step, length-digits_of-le}
-use Rattle.rx_refine.specs.Keys.{total, waiting_cost, waiting_reads}
-use Rattle.rx_refine.specs.Moves.{Moves, AreMoves, column, sources, binary_digits, read_limit}
-use Rattle.rx_refine.specs.Places.{how_many}
-use Rattle.rx_refine.specs.Parts.{Parts, Refines, block_of, size_of, is_in}
+use Rattle.rx_refine.proofs.Prelude.{AreMoves, List, Moves, Parts, Refines, ap, arith, binary_digits, block_of}
+use Rattle.rx_refine.proofs.Prelude.{cases_eq, column, common_steps, cond, eq-eqb, eqb, get_or, get_or-set_other}
+use Rattle.rx_refine.proofs.Prelude.{get_or-set_same, how_many, inl, inr, is_in, leb, length, length-digits_of-le}
+use Rattle.rx_refine.proofs.Prelude.{length-digits_of_step, mul-le-mul_right, ne_eqb, pow_pos, read_limit, refl, rules}
+use Rattle.rx_refine.proofs.Prelude.{set, size_of, sources, suc, sum_by, sym, total, waiting_cost, waiting_reads, zero}
+use Rattle.rx_refine.proofs.Prelude.{ℕ, ◌*◌, ◌+◌, ◌/◌, ◌<◌, ◌^◌, ◌∙◌, ◌≡◌, ◌≤◌}
 use Rattle.rx_refine.proofs.Blocks.{is_in_members, members, members_apart, members_small}
 use Rattle.rx_refine.proofs.Places.{length-places_from}
 use Rattle.rx_refine.proofs.RefinedBlocks.{IsRefined, IsSettling}

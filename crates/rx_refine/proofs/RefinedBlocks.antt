@@ -1,14 +1,11 @@
 -- Why the blocks are right: while units take blocks, rows of different blocks are told apart by a word,
 -- and where a unit leads two rows of one block into different blocks, one of these is a block that the
 -- unit has still to take.
-use Rattle.std.proofs.Common.{rules, ◌≡◌, ℕ, suc, ◌+◌, ◌<◌, ◌≤◌, cond, List, [], ◌∷◌, length, get_or, set, eqb, leb}
-use Rattle.std.proofs.Common.{le-leb, refl, sym, subst, ap, ◌∙◌, arith, eqb-true, eq-eqb, get_or-set_other, inl, inr}
-use Rattle.std.proofs.lemmas.Grind.{common_steps}
-use Rattle.std.proofs.lemmas.Bool.{cases_eq, cases_lt, lt-leb}
-use Rattle.rx_refine.specs.Keys.{TakesAll}
-use Rattle.rx_refine.specs.Moves.{Moves, AreMoves, next_row, IsWord, label_after, BehaveAlike, AreToldApart}
-use Rattle.rx_refine.specs.Moves.{AreAlikeByNumber}
-use Rattle.rx_refine.specs.Parts.{Parts, IsPartition, Refines, SplitsBy, block_of, is_in}
+use Rattle.rx_refine.proofs.Prelude.{AreAlikeByNumber, AreMoves, AreToldApart, BehaveAlike, IsPartition, IsWord, List}
+use Rattle.rx_refine.proofs.Prelude.{Moves, Parts, Refines, SplitsBy, TakesAll, [], ap, arith, block_of, cases_eq}
+use Rattle.rx_refine.proofs.Prelude.{cases_lt, common_steps, cond, eq-eqb, eqb, eqb-true, get_or, get_or-set_other, inl}
+use Rattle.rx_refine.proofs.Prelude.{inr, is_in, label_after, le-leb, leb, length, lt-leb, next_row, refl, rules, set}
+use Rattle.rx_refine.proofs.Prelude.{subst, suc, sym, ℕ, ◌+◌, ◌<◌, ◌∙◌, ◌∷◌, ◌≡◌, ◌≤◌}
 use Rattle.rx_refine.proofs.Blocks.{alone, is_in_members, marks_of, members}
 use Rattle.rx_refine.proofs.Places.{Contains-cons}
 
@@ -83,14 +80,10 @@ module _ {m : Moves} {labels : List ℕ} {p q : Parts} (r : IsRefined m labels p
   split_same {x} {y} b lx ly e = grind (arith, common_steps, row_in r)
 
   split_leads : {k x y : ℕ} → k ≤ length p.sizes → x < m.rows → y < m.rows → Leads p k x y → Leads q k x y
-  split_leads b lx ly (same e) = split_same b lx ly e
-  split_leads b lx ly (first e) = first (later b lx e)
-  split_leads b lx ly (second e) = second (later b ly e)
+  split_leads b lx ly h3 = search (rules, split_same, later)
 
 flipped : {p : Parts} {k x y : ℕ} → Leads p k x y → Leads p k y x
-flipped (same e) = same (sym e)
-flipped (first e) = second e
-flipped (second e) = first e
+flipped h0 = grind (arith, common_steps)
 
 -- ---- a unit takes blocks: it took those below `from`, and takes those below `to` too, by which the blocks are split
 pub record Takes (m : Moves) (labels : List ℕ) (unit : ℕ) (p : Parts) (from : ℕ) (q : Parts) (to : ℕ) : Type 0 where
@@ -161,9 +154,7 @@ module _ {m : Moves} {labels : List ℕ} {p q : Parts} {unit block : ℕ} {hits 
   block_leads : (x y : ℕ) → x < m.rows → y < m.rows → block_of q x ≡ block_of q y
       → Leads p block (next_row m x unit) (next_row m y unit)
       → Leads q (block + 1) (next_row m x unit) (next_row m y unit)
-  block_leads x y lx ly e (same f) = next_same x y lx ly f
-  block_leads x y lx ly e (first f) = block_first x y lx ly e f
-  block_leads x y lx ly e (second f) = flipped (block_first y x ly lx (sym e) f)
+  block_leads x y lx ly e h5 = grind (arith, common_steps, next_same, block_first, flipped)
 
   pub Takes-block : Takes m labels unit p block q (block + 1)
   Takes-block = record { refines = s.refines; few = omega arith; told = block_told; leads = block_leads }
@@ -193,9 +184,7 @@ module _ {m : Moves} {labels : List ℕ} {p q : Parts} {unit from : ℕ} (moves 
   all_leads : (x y : ℕ) → x < m.rows → y < m.rows → block_of q x ≡ block_of q y
       → Leads p from (next_row m x unit) (next_row m y unit)
       → Leads q (length p.sizes) (next_row m x unit) (next_row m y unit)
-  all_leads x y lx ly e (same f) = one_leads x y lx ly f
-  all_leads x y lx ly e (first f) = one_leads x y lx ly (one_next x y lx ly e f)
-  all_leads x y lx ly e (second f) = one_leads x y lx ly (sym (one_next y x ly lx (sym e) f))
+  all_leads x y lx ly e h5 = grind (arith, common_steps, one_leads, one_next)
 
   pub Takes-all : Takes m labels unit p from q (length p.sizes)
   Takes-all = record { refines = s.splits.refines; few = omega arith; told = all_told; leads = all_leads }

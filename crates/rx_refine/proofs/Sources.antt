@@ -1,14 +1,8 @@
 -- The rows that a unit leads to one of several rows.
-use Rattle.std.proofs.lemmas.Grind.{common_steps}
-use Rattle.std.proofs.Common.{◌≡◌, ℕ, ◌<◌, List, [], ◌∷◌, length, get_or, eqb, refl, sym, ◌∙◌, arith, eqb-true, eq-eqb}
-use Rattle.std.proofs.Common.{ne_eqb, inl, inr}
-use Rattle.std.specs.List.{All, flat_map}
-use Rattle.std.proofs.lemmas.Bool.{cases_Bool, cases_eq}
-use Rattle.std.proofs.lemmas.List.Elements.{Contains-get_or, All-nil}
-use Rattle.std.proofs.lemmas.Map.Views.{Contains-from_any}
-use Rattle.rx_refine.specs.Moves.{Moves, AreMoves, column, sources, next_row}
-use Rattle.rx_refine.specs.Places.{places_of}
-use Rattle.rx_refine.specs.Parts.{is_in}
+use Rattle.rx_refine.proofs.Prelude.{All, All-nil, AreMoves, Contains-from_any, Contains-get_or, List, Moves, [], arith}
+use Rattle.rx_refine.proofs.Prelude.{cases_Bool, cases_eq, column, common_steps, eq-eqb, eqb, eqb-true, flat_map}
+use Rattle.rx_refine.proofs.Prelude.{get_or, inl, inr, is_in, length, ne_eqb, next_row, places_of, refl, sources, sym}
+use Rattle.rx_refine.proofs.Prelude.{ℕ, ◌<◌, ◌∙◌, ◌∷◌, ◌≡◌}
 use Rattle.rx_refine.proofs.Places.{Contains-places_of, within-places_of, value-places_of}
 use Rattle.rx_refine.proofs.GroupedRows.{any-from_Contains}
 

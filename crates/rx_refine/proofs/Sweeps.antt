@@ -1,14 +1,9 @@
 -- The loops of the refinement: what holds before each turn, in which a unit takes a block.
-use Rattle.std.proofs.Common.{rules, ◌≡◌, ℕ, ◌+◌, ◌-◌, ◌<◌, ◌≤◌, List, [], length, get_or, set, eqb, true, subst, arith}
-use Rattle.std.proofs.Common.{get_or-set_other}
-use Rattle.std.proofs.lemmas.Grind.{common_steps}
-use Rattle.std.specs.List.{sum_by, flat_map, All, Contains}
-use Rattle.std.proofs.lemmas.List.Elements.{Contains-get_or}
-use Rattle.std.proofs.lemmas.List.{get_or_default}
-use Rattle.rx_refine.specs.Keys.{waiting_reads, TakesAll}
-use Rattle.rx_refine.specs.Moves.{Moves, AreMoves, sources, read_limit, AreAlikeByNumber, AreToldByNumber}
-use Rattle.rx_refine.specs.Moves.{AreWithoutGaps}
-use Rattle.rx_refine.specs.Parts.{Parts, SplitsBy, block_of}
+use Rattle.rx_refine.proofs.Prelude.{All, AreAlikeByNumber, AreMoves, AreToldByNumber, AreWithoutGaps, Contains}
+use Rattle.rx_refine.proofs.Prelude.{Contains-get_or, List, Moves, Parts, SplitsBy, TakesAll, [], arith, block_of}
+use Rattle.rx_refine.proofs.Prelude.{common_steps, eqb, flat_map, get_or, get_or-set_other, get_or_default, length}
+use Rattle.rx_refine.proofs.Prelude.{read_limit, rules, set, sources, subst, sum_by, true, waiting_reads, ℕ, ◌+◌, ◌-◌}
+use Rattle.rx_refine.proofs.Prelude.{◌<◌, ◌≡◌, ◌≤◌}
 use Rattle.rx_refine.specs.Labelled.{IsByLabel}
 use Rattle.rx_refine.proofs.Blocks.{blocks_few, members, members_small, row_at, start_of}
 use Rattle.rx_refine.proofs.Sources.{is_in-flat_map, flat_map-small}

@@ -1,15 +1,11 @@
 -- The columns of a table (columns.rt), to which its rows are added so many at a time, turned into columns (table.rt).
-use Rattle.std.proofs.lemmas.Grind.{common_steps}
-use Rattle.std.proofs.Common.{◌≡◌, ℕ, ◌+◌, ◌-◌, ◌*◌, ◌<◌, ◌≤◌, List, [], ◌∷◌, ◌++◌, length, get_or, set, inl, inr, refl}
-use Rattle.std.proofs.Common.{sym, ap, ◌∙◌, arith, mul-le-mul_right, get_or-set_same, get_or-set_other}
-use Rattle.std.specs.List.{All, slice_range}
-use Rattle.std.proofs.lemmas.Bool.{cases_eq, cases_lt}
+use Rattle.rx_refine.proofs.Prelude.{All, AreColumns, AreMoves, IsLayout, Layout, List, Moves, [], ap, arith, cases_eq}
+use Rattle.rx_refine.proofs.Prelude.{cases_lt, common_steps, get_or, get_or-append_right, get_or-set_other}
+use Rattle.rx_refine.proofs.Prelude.{get_or-set_same, get_or_append_left, get_or_default, get_or_past, get_or_read, inl}
+use Rattle.rx_refine.proofs.Prelude.{inr, length, length-append, mul-le-mul_right, next_at, refl, set, slice_range, sym}
+use Rattle.rx_refine.proofs.Prelude.{ℕ, ◌*◌, ◌++◌, ◌+◌, ◌-◌, ◌<◌, ◌∙◌, ◌∷◌, ◌≡◌, ◌≤◌}
 use Rattle.std.proofs.lemmas.Nat.{same_from_place, mul-add-lt}
-use Rattle.std.proofs.lemmas.List.{get_or_default, get_or_read, get_or_past, length-append, get_or_append_left}
-use Rattle.std.proofs.lemmas.List.{get_or-append_right}
 use Rattle.std.proofs.Math.Seq.{get_or-append_seam}
-use Rattle.rx_refine.specs.Layouts.{Layout, IsLayout, AreColumns, next_at}
-use Rattle.rx_refine.specs.Moves.{Moves, AreMoves}
 
 -- ---- next rows that are copied row by row, so that they stand unit by unit
 -- of so many rows from `first` on, `n` next rows are copied

@@ -1,13 +1,8 @@
 -- Sums over the numbers below a bound.
-use Rattle.std.proofs.lemmas.Grind.{common_steps}
-use Rattle.std.proofs.Common.{◌≡◌, ℕ, zero, suc, ◌+◌, ◌*◌, ◌<◌, ◌≤◌, true, cond, List, [], ◌∷◌, length, get_or, eqb}
-use Rattle.std.proofs.Common.{refl, sym, ap, ◌∙◌, arith, ne_eqb, mul-zero, true≢false, inl, inr}
-use Rattle.std.specs.List.{sum_by, list_any}
-use Rattle.std.proofs.lemmas.Bool.{cases_eq}
-use Rattle.std.proofs.lemmas.List.Sums.{sum_by-cons}
-use Rattle.std.proofs.Math.Numerals.{suc-eq-add-one}
-use Rattle.rx_refine.specs.Keys.{total}
-use Rattle.rx_refine.specs.Places.{how_many, how_many_below, AreApart}
+use Rattle.rx_refine.proofs.Prelude.{AreApart, List, [], arith, cases_eq, common_steps, cond, eqb, get_or, how_many}
+use Rattle.rx_refine.proofs.Prelude.{how_many_below, inl, inr, length, list_any, mul-zero, ne_eqb, refl, suc}
+use Rattle.rx_refine.proofs.Prelude.{suc-eq-add-one, sum_by, sum_by-cons, sym, total, true, true≢false, zero, ℕ, ◌*◌}
+use Rattle.rx_refine.proofs.Prelude.{◌+◌, ◌<◌, ◌∙◌, ◌∷◌, ◌≡◌, ◌≤◌}
 use Rattle.rx_refine.proofs.Places.{how_many_below_more, how_many_below-zero}
 use Rattle.rx_refine.proofs.GroupedRows.{how_many_below-all}
 
@@ -93,17 +88,11 @@ sum_by-total h n [] a small = sym (total_zero n)
 sum_by-total h n (x ∷ xs) a small =
     let t : total (λ r. cond (list_any (eqb r) (x ∷ xs)) (h r) 0) n
     ≡ total (λ r. cond (eqb r x) (h r) 0 + cond (list_any (eqb r) xs) (h r) 0) n =
-    total-same (λ r. cond (list_any (eqb r) (x ∷ xs)) (h r) 0)
-    (λ r. cond (eqb r x) (h r) 0 + cond (list_any (eqb r) xs) (h r) 0) n
-    (λ r l. split_in h x xs r (not_in_tail x xs a)) in
+    grind (arith, common_steps, total-same, split_in, not_in_tail) in
     let u : total (λ r. cond (eqb r x) (h r) 0 + cond (list_any (eqb r) xs) (h r) 0) n
     ≡ total (λ r. cond (eqb r x) (h r) 0) n + total (λ r. cond (list_any (eqb r) xs) (h r) 0) n =
     total-add (λ r. cond (eqb r x) (h r) 0) (λ r. cond (list_any (eqb r) xs) (h r) 0) n in
     let v : total (λ r. cond (eqb r x) (h r) 0) n ≡ h x = total_single h x n (small 0 (omega arith)) in
     let w : sum_by h xs ≡ total (λ r. cond (list_any (eqb r) xs) (h r) 0) n =
     sum_by-total h n xs (AreApart-tail x xs a) (λ k l. small (suc k) (omega arith)) in
-    sum_by-cons h x xs
-    ∙ ap (λ k. h x + k) w
-    ∙ ap (λ k. k + total (λ r. cond (list_any (eqb r) xs) (h r) 0) n) (sym v)
-    ∙ sym u
-    ∙ sym t
+    grind (arith, common_steps, sum_by-cons)

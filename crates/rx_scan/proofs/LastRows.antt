@@ -1,15 +1,13 @@
 -- How far a walk from a place has come, which row it met last, and what each turn adds.
 use Rattle.rx_spec.proofs.Prelude.{common_steps, ◌≡◌, ◌≢◌, ℕ, suc, zero, ◌+◌, ◌-◌, ◌<◌, ◌≤◌, ◌==◌, true, false, Option}
 use Rattle.rx_spec.proofs.Prelude.{Some, None, Ok, Err, List, [], ◌∷◌, length, slice_index, ap, ap₂, sym, ◌∙◌, subst}
-use Rattle.rx_spec.proofs.Prelude.{arith, ⊎_elim, le-ltb, cases_eq, eqb-true, eq-eqb, slice_get_past, option_or}
-use Rattle.rx_spec.proofs.Prelude.{AreBytes, HalfAnswer, row_of, HalfMatch, MatchError, Ending, OverlappingMatches}
-use Rattle.rx_spec.proofs.Prelude.{none_left, pattern_items, with_items, Table, is_match}
+use Rattle.rx_spec.proofs.Prelude.{arith, ⊎_elim, cases_eq, slice_get_past, option_or, AreBytes, HalfAnswer, row_of}
+use Rattle.rx_spec.proofs.Prelude.{HalfMatch, MatchError, Ending, OverlappingMatches, none_left, pattern_items}
+use Rattle.rx_spec.proofs.Prelude.{with_items, Table, is_match}
 use Rattle.rx_spec.specs.declared.Direction.{Direction}
-use Rattle.lemmas_walks.proofs.Firsts.{by_test}
-use Rattle.lemmas_walks.proofs.Overlapping.{overlapping_walks}
 use Rattle.rx_search.specs.Labels.{is_quit, patterns_of}
 use Rattle.rx_search.specs.Needles.{byte_ahead, is_read}
-use Rattle.rx_search.specs.Starts.{IsId, IsStart}
+use Rattle.rx_search.specs.Starts.{IsId}
 use Rattle.rx_search.specs.Walks.{IsInSpan, units_left, units_after, next_stop, Stop}
 use Rattle.rx_search.proofs.Standing.{Standing}
 use Rattle.rx_search.proofs.Walks.{Place, Turn, Step, LastStep, IsQuiet, step_quiet, step_match, step_quits, step_ends}
@@ -32,11 +30,11 @@ told m = Ok m
 
 nothing_met : (t : Table) (ids : List ℕ) (p : ℕ) (met : MetRow) → (met.offset == p) ≡ true
     → longest_met t ids p (Some met) ≡ None
-nothing_met t ids p met here = grind (arith, common_steps, eqb-true, longest_here)
+nothing_met t ids p met here = grind (arith, common_steps, longest_here)
 
 pub last_keeps : {t : Table} {ids : List ℕ} {p end : ℕ} {matches : OverlappingMatches} (met : MetRow)
     → IsLast t ids p end matches (Some met) → IsLast t ids p end matches (kept_met p met)
-last_keeps {t} {ids} {p} {end} {matches} met last = grind (arith, common_steps, by_test, nothing_met)
+last_keeps {t} {ids} {p} {end} {matches} met last = grind (arith, common_steps, nothing_met)
 
 abbrev met_at : ℕ → ℕ → Option MetRow
 met_at id at = Some (record { row = id; offset = at })
@@ -44,16 +42,7 @@ met_at id at = Some (record { row = id; offset = at })
 module _ {t : Table} {ids text : List ℕ} {p : ℕ} where
   pub walk_keeps : {row at : ℕ} (met : MetRow) → Walked t ids text p row at (Some met)
       → Walked t ids text p row at (kept_met p met)
-  walk_keeps {row} {at} met w = grind (arith, common_steps, by_test, nothing_met)
-
-  pub walk_starts : (id : ℕ) → Walked t ids text p (row_of ids id) p None
-      → Walked t ids text p (row_of ids id) p (kept_met p (record { row = id; offset = p }))
-  walk_starts id w = grind (arith, common_steps, eq-eqb)
-
-  -- where it begins
-  pub walk_begins : (row : ℕ) → p < length text → IsStart t Direction.Forward (query_at text p) row
-      → Walked t ids text p row p None
-  walk_begins row more start = grind (arith, common_steps, le-ltb, overlapping_walks, or_none)
+  walk_keeps {row} {at} met w = grind (arith, common_steps, nothing_met)
 
   module _ {row at : ℕ} {last : Option MetRow} (w : Walked t ids text p row at last) where
     in_span : IsInSpan (query_at text p) at
@@ -74,8 +63,7 @@ module _ {t : Table} {ids text : List ℕ} {p : ℕ} where
     pub walk_over : told_later t text p row at ≡ none_left Ending.Ended
         → IsLast t ids p (length text) (told_at t text p) last
     walk_over e = record {
-      best = ap₂ unless_ended (ending_by e)
-          (best_by e ∙ ap (λ (o : Option HalfMatch). option_or o (longest_met t ids p last)) (longest-nil p));
+      best = grind (arith, common_steps, option_or, longest-nil);
       met = w.met;
     }
 
@@ -99,13 +87,13 @@ module _ {t : Table} {ids text : List ℕ} {p : ℕ} where
             (λ (same : at ≡ p). ap
             (λ (l : Option MetRow). option_or (longest p (pattern_items ks at)) (longest_met t ids p l))
             (w.none_yet same) ∙ or_none (longest p (pattern_items ks at)))
-            (λ (other : at ≢ p). by_list ks (some_pattern s is) (let low = w.low in omega (arith, low, other)))
+            (λ (other : at ≢ p). by_list ks (some_pattern s is) (let low = w.low in omega arith))
             (cases_eq at p)
           where
             by_list : (js : List ℕ) → 0 < length js → p < at
                 → option_or (longest p (pattern_items js at)) (longest_met t ids p last)
                 ≡ longest p (pattern_items js at)
-            by_list [] some h = absurd (omega (arith, some))
+            by_list [] some h = absurd (omega arith)
             by_list (j ∷ js) some h =
                 let e = (longest_row p at j js h).1 in
                 ap (λ (o : Option HalfMatch). option_or o (longest_met t ids p last)) e ∙ sym e
@@ -117,11 +105,7 @@ module _ {t : Table} {ids text : List ℕ} {p : ℕ} where
             → AllPast at later.items
             → longest p (told_at t text p).items ≡ option_or (longest p later.items) (longest_met t ids p here)
         best_behind later e past =
-            best_by e
-            ∙ ap (λ (o : Option HalfMatch). option_or o (longest_met t ids p last))
-            (longest_append p at ks later.items past)
-            ∙ or_assoc (longest p later.items) (longest p (pattern_items ks at)) (longest_met t ids p last)
-            ∙ ap (option_or (longest p later.items)) outdone
+            grind (arith, common_steps, best_by, option_or, longest_append, or_assoc, outdone)
 
         open_query : Open (query_at text p)
         open_query = let low = w.low in let high = w.high in record { order = omega arith; fits = omega arith }
@@ -139,7 +123,7 @@ module _ {t : Table} {ids text : List ℕ} {p : ℕ} where
             ∙ ap (with_items (pattern_items ks at)) (goes_on_at s is Direction.Forward q at open_query in_span more) in
             record {
               low = omega arith;
-              high = omega (arith, high, more);
+              high = omega arith;
               best = best_behind later told (walk_past t.machine (row_of ids id) (at + 1) at _ (omega arith));
               ending = ending_by told;
               met = met_here;
@@ -178,7 +162,7 @@ module _ {t : Table} {ids text : List ℕ} {p : ℕ} where
         ∙ sym (overlapping_stops t.machine Direction.Forward next (at + 1) (units_left Direction.Forward q (at + 1))) in
         record {
           low = omega arith;
-          high = omega (arith, high, more);
+          high = omega arith;
           best = best_by told;
           ending = ending_by told;
           met = w.met;
@@ -216,7 +200,7 @@ module _ {t : Table} {ids text : List ℕ} {p : ℕ} where
         → Step t Direction.Forward (query_at text p) (row_of ids id) at (row_of ids id)
     stays {at} w more unread = record {
       place = place w;
-      more = λ e. omega (arith, e, more);
+      more = λ e. omega arith;
       turn = record { leads = sym (loops s (slice_index text at) (bytes at 0 more) unread); standing = s };
     }
 
@@ -227,13 +211,13 @@ module _ {t : Table} {ids text : List ℕ} {p : ℕ} where
     quiet_bytes zero at {last} no_match w h unread =
         let same : at ≡ at + 0 = omega arith in subst (λ (o : ℕ). Walked t ids text p (row_of ids id) o last) same w
     quiet_bytes (suc n) at {last} no_match w h unread =
-        let more : at < length text = omega (arith, h) in
+        let more : at < length text = omega arith in
         let first = unread at (omega arith) (omega arith) in
         let there : at + 1 + n ≡ at + suc n = omega arith in
         let quiet = unread_quiet s (slice_index text at) (bytes at 0 more) no_match first in
         subst (λ (o : ℕ). Walked t ids text p (row_of ids id) o last) there
-        (quiet_bytes n (at + 1) no_match (quiet_on w (stays w more first) quiet) (omega (arith, h))
-        (λ k low high. unread k (omega (arith, low)) (omega (arith, high))))
+        (quiet_bytes n (at + 1) no_match (quiet_on w (stays w more first) quiet) (omega arith)
+        (λ k low high. unread k (omega arith) (omega arith)))
 
     -- a quiet row skips
     pub quiet_skips : {at to : ℕ} {last : Option MetRow} → is_match t (row_of ids id) ≡ false
@@ -244,22 +228,20 @@ module _ {t : Table} {ids text : List ℕ} {p : ℕ} where
         let high = skip.high in
         let there : at + (to - at) ≡ to = omega arith in
         subst (λ (o : ℕ). Walked t ids text p (row_of ids id) o last) there
-        (quiet_bytes (to - at) at no_match w (omega arith) (λ k l h. skip.skipped k l (omega (arith, h, there))))
+        (quiet_bytes (to - at) at no_match w (omega arith) (λ k l h. skip.skipped k l (omega arith)))
 
     met_bytes : (n at : ℕ) → is_match t (row_of ids id) ≡ true → IsId ids id
         → Walked t ids text p (row_of ids id) (at + 1) (met_at id at) → at + 1 + n ≤ length text
         → ((k : ℕ) → at + 1 ≤ k → k < at + 1 + n → is_read t (row_of ids id) (slice_index text k) ≡ false)
         → Walked t ids text p (row_of ids id) (at + n + 1) (met_at id (at + n))
-    met_bytes zero at is is_id w h unread =
-        let same : at ≡ at + 0 = omega arith in
-        subst (λ (o : ℕ). Walked t ids text p (row_of ids id) (o + 1) (met_at id o)) same w
+    met_bytes zero at is is_id w h unread = grind (arith, common_steps)
     met_bytes (suc n) at is is_id w h unread =
-        let more : at + 1 < length text = omega (arith, h) in
+        let more : at + 1 < length text = omega arith in
         let first = unread (at + 1) (omega arith) (omega arith) in
         let there : at + 1 + n ≡ at + suc n = omega arith in
         subst (λ (o : ℕ). Walked t ids text p (row_of ids id) (o + 1) (met_at id o)) there
-        (met_bytes n (at + 1) is is_id (met_on w id s is is_id (stays w more first)) (omega (arith, h))
-        (λ k low high. unread k (omega (arith, low)) (omega (arith, high))))
+        (met_bytes n (at + 1) is is_id (met_on w id s is is_id (stays w more first)) (omega arith)
+        (λ k low high. unread k (omega arith) (omega arith)))
 
     -- a match row skips, and is met again at each place
     pub met_skips : {at to : ℕ} → is_match t (row_of ids id) ≡ true → IsId ids id
@@ -274,7 +256,7 @@ module _ {t : Table} {ids text : List ℕ} {p : ℕ} where
         subst (λ (o : ℕ). Walked t ids text p (row_of ids id) o (met_at id (to - 1))) behind
         (subst (λ (o : ℕ). Walked t ids text p (row_of ids id) (o + 1) (met_at id o)) there
         (met_bytes n at is is_id w (omega arith)
-        (λ k l h. skip.skipped k l (omega (arith, h)))))
+        (λ k l h. skip.skipped k l (omega arith))))
 
 -- the step by the end mark, behind the last byte
 pub end_step : {t : Table} {text : List ℕ} {p row next : ℕ} → p < length text → Turn t row 256 next

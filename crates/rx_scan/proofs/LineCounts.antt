@@ -1,8 +1,9 @@
 -- Lines: bytes that are no line feed change nothing.
-use Rattle.rx_spec.proofs.Prelude.{◌≡◌, ◌≢◌, ℕ, zero, suc, ◌+◌, ◌-◌, ◌<◌, ◌≤◌, Bool, true, false, if◌then◌else◌, Option}
-use Rattle.rx_spec.proofs.Prelude.{Some, None, ⊎_elim, List, length, take, drop, refl, ap, sym, ◌∙◌, arith, length-drop}
-use Rattle.rx_spec.proofs.Prelude.{length-take-le, false_from_ne_true, cases_eq, get_or-take, get_or-drop}
-use Rattle.rx_spec.proofs.Prelude.{slice_get-get_or, slice_index, after}
+use Rattle.std.proofs.lemmas.Grind.{common_steps}
+use Rattle.rx_spec.proofs.Prelude.{◌≡◌, ◌≢◌, ℕ, zero, suc, ◌+◌, ◌-◌, ◌<◌, ◌≤◌, Bool, true, false, if◌then◌else◌, Some}
+use Rattle.rx_spec.proofs.Prelude.{None, ⊎_elim, List, length, take, drop, refl, ap, sym, ◌∙◌, arith, length-drop}
+use Rattle.rx_spec.proofs.Prelude.{length-take-le, cases_eq, get_or-take, get_or-drop, slice_get-get_or, slice_index}
+use Rattle.rx_spec.proofs.Prelude.{after}
 use Rattle.memchr.specs.Find.{IsFirstByte, is_byte as is}
 use Rattle.rx_spec.specs.Looks.{is_byte}
 use Rattle.lemmas_walks.proofs.Firsts.{by_test}
@@ -42,7 +43,7 @@ module _ (text : List ℕ) where
   feeds_kept from (suc n) none =
       let e : from + suc n ≡ suc (from + n) = omega arith in
       ap (line_feeds text) e ∙ feeds_same (from + n) (none n (omega arith))
-      ∙ feeds_kept from n (λ k h. none k (omega (arith, h)))
+      ∙ feeds_kept from n (λ k h. none k (omega arith))
 
   pub start_kept : (from n : ℕ) → ((k : ℕ) → k < n → is_feed (from + k) ≡ false)
       → line_start text (from + n) ≡ line_start text from
@@ -50,7 +51,7 @@ module _ (text : List ℕ) where
   start_kept from (suc n) none =
       let e : from + suc n ≡ suc (from + n) = omega arith in
       ap (line_start text) e ∙ start_same (from + n) (none n (omega arith))
-      ∙ start_kept from n (λ k h. none k (omega (arith, h)))
+      ∙ start_kept from n (λ k h. none k (omega arith))
 
   pub feeds_few : (p : ℕ) → line_feeds text p ≤ p
   feeds_few zero = let e = feeds_zero in omega arith
@@ -61,14 +62,14 @@ module _ (text : List ℕ) where
   -- a place of the line that goes on at a later one
   pub same_line : (p q : ℕ) → line_start text q ≤ p → p ≤ q
       → (line_feeds text q ≡ line_feeds text p) × (line_start text q ≡ line_start text p)
-  same_line p zero begun low = let e : 0 ≡ p = omega (arith, low) in (ap (line_feeds text) e, ap (line_start text) e)
+  same_line p zero begun low = let e : 0 ≡ p = omega arith in (ap (line_feeds text) e, ap (line_start text) e)
   same_line p (suc i) begun low =
       ⊎_elim
       (λ (e : p ≡ suc i). (ap (line_feeds text) (sym e), ap (line_start text) (sym e)))
       (λ (other : p ≢ suc i). by_test (is_feed i)
-      (λ feed. let on = start_on i feed in absurd (omega (arith, on, begun, low, other)))
-      (λ none. let before = same_line p i (let same = start_same i none in omega (arith, same, begun))
-      (omega (arith, low, other)) in
+      (λ feed. let on = start_on i feed in absurd (omega (arith, on)))
+      (λ none. let before = same_line p i (let same = start_same i none in omega arith)
+      (omega arith) in
       (feeds_same i none ∙ before.0, start_same i none ∙ before.1)))
       (cases_eq p (suc i))
 
@@ -82,26 +83,22 @@ module _ (text : List ℕ) where
     part_at k h = get_or-take (to - at) (drop at text) k 0 h ∙ get_or-drop at text k 0
 
     feed_is : (k : ℕ) → k < to - at → is_feed (at + k) ≡ is 10 (slice_index part k)
-    feed_is k h =
-        ap (λ (b : Option ℕ). is_byte b 10) (slice_get-get_or text (at + k) 0 (omega (arith, h, within)))
-        ∙ ap (is 10) (sym (part_at k h))
+    feed_is k h = grind (arith, common_steps, slice_get-get_or)
 
     part_length : length part ≡ to - at
     part_length = length-take-le (to - at) (drop at text) (simp length-drop (omega arith))
 
     none_before : (n : ℕ) → n ≤ to - at → ((k : ℕ) → k < n → is 10 (slice_index part k) ≡ true → ⊥)
         → (k : ℕ) → k < n → is_feed (at + k) ≡ false
-    none_before n few none k h =
-        feed_is k (omega (arith, h, few)) ∙ false_from_ne_true (is 10 (slice_index part k)) (none k h)
+    none_before n few none k h = grind (arith, common_steps, feed_is)
 
     -- none is there
     module _ (none : IsFirstByte (is 10) (take (to - at) (drop at text)) None) where
       plain : (k : ℕ) → k < to - at → is_feed (at + k) ≡ false
-      plain = none_before (to - at) (omega arith)
-          (λ k h. none k (omega arith) (let n = part_length in omega (arith, n, h)))
+      plain = grind (arith, common_steps, none_before)
 
       there : at + (to - at) ≡ to
-      there = omega (arith, ordered)
+      there = omega arith
 
       pub feeds_to : line_feeds text at ≡ line_feeds text to
       feeds_to = sym (feeds_kept at (to - at) plain) ∙ ap (line_feeds text) there
@@ -112,10 +109,10 @@ module _ (text : List ℕ) where
     -- the first one
     module _ (i : ℕ) (first : IsFirstByte (is 10) (take (to - at) (drop at text)) (Some i)) where
       pub found_within : i < to - at
-      found_within = let n = part_length in let high = first.0.high in omega (arith, n, high)
+      found_within = let n = part_length in let high = first.0.high in omega arith
 
       plain_before : (k : ℕ) → k < i → is_feed (at + k) ≡ false
-      plain_before = none_before i (let w = found_within in omega (arith, w)) (λ k h. first.0.before k (omega arith) h)
+      plain_before = none_before i (let w = found_within in omega arith) (λ k h. first.0.before k (omega arith) h)
 
       pub feeds_before : line_feeds text at ≡ line_feeds text (at + i)
       feeds_before = sym (feeds_kept at i plain_before)

@@ -1,14 +1,12 @@
 -- The longest of what is told: what is told later ends later, and of a row's patterns the lowest is it.
 use Rattle.rx_spec.proofs.Prelude.{common_steps, ◌≡◌, ℕ, ◌<◌, ◌≤◌, Bool, true, false, if◌then◌else◌, Option, Some, None}
 use Rattle.rx_spec.proofs.Prelude.{List, [], ◌∷◌, ◌++◌, refl, ap, sym, ◌∙◌, subst, arith, ⊎_elim, ◌⊎◌, inl, ltb-true}
-use Rattle.rx_spec.proofs.Prelude.{ltb-false, lt-ltb, le-ltb, eq-eqb, or_left, or_right, and_from, or_parts, eqb-true}
-use Rattle.rx_spec.proofs.Prelude.{and_parts, All-nil, All-cons, nat_lt, Contains, option_or, HalfMatch, Item}
-use Rattle.rx_spec.proofs.Prelude.{pattern_items}
+use Rattle.rx_spec.proofs.Prelude.{ltb-false, or_right, eqb-true, and_parts, All-nil, All-cons, nat_lt, Contains}
+use Rattle.rx_spec.proofs.Prelude.{option_or, HalfMatch, Item, pattern_items}
 use Rattle.lemmas_walks.proofs.Firsts.{by_test, Contains-here, Contains-there, Contains-cases, Contains-nil}
 use Rattle.rx_all.proofs.PastOffsets.{AllPast}
 use Rattle.rx_scan.specs.Tokens.{comes_before, first_of_two, longest}
 use Rattle.rx_scan.specs.Walks.{IsLowest}
-use Rattle.lemmas_walks.proofs.Ranges.{or_none}
 
 -- ---- one item more
 
@@ -23,17 +21,17 @@ longest_skips p items = refl
 pub longest_past : (p : ℕ) (m : HalfMatch) (items : List Item) → p < m.offset
     → longest p (Item.Reported m ∷ items) ≡ first_of_two m (longest p items)
 unfolding longest
-longest_past p m items h = grind (arith, common_steps, lt-ltb)
+longest_past p m items h = grind (arith, common_steps)
 
 pub longest_empty : (p : ℕ) (m : HalfMatch) (items : List Item) → m.offset ≤ p
     → longest p (Item.Reported m ∷ items) ≡ longest p items
 unfolding longest
-longest_empty p m items h = grind (arith, common_steps, le-ltb)
+longest_empty p m items h = grind (arith, common_steps)
 
 first_is : (m : HalfMatch) (o : Option HalfMatch) (n : HalfMatch) → first_of_two m o ≡ Some n
     → ((m ≡ n) ⊎ (o ≡ Some n))
 first_is m None n e = inl (cc)
-first_is m (Some k) n e = grind (arith, common_steps, by_test)
+first_is m (Some k) n e = grind (arith, common_steps)
 
 -- the longest of a place ends past it
 pub longest_ends : (p : ℕ) (items : List Item) (n : HalfMatch) → longest p items ≡ Some n → p < n.offset
@@ -64,7 +62,7 @@ longest_later p o (Item.Reported m ∷ items) n all e =
 -- ---- a row's patterns, and what is told behind them
 
 later_first : (m n : HalfMatch) → m.offset < n.offset → first_of_two m (Some n) ≡ Some n
-later_first m n h = grind (arith, common_steps, or_left, lt-ltb)
+later_first m n h = grind (arith, common_steps)
 
 two_later : (m : HalfMatch) (later here : Option HalfMatch) → ((n : HalfMatch) → later ≡ Some n → m.offset < n.offset)
     → first_of_two m (option_or later here) ≡ option_or later (first_of_two m here)
@@ -73,7 +71,7 @@ two_later m (Some n) here past = later_first m n (past n refl)
 
 pub longest_append : (p o : ℕ) (ks : List ℕ) (later : List Item) → AllPast o later
     → longest p (pattern_items ks o ++ later) ≡ option_or (longest p later) (longest p (pattern_items ks o))
-longest_append p o [] later past = grind (arith, common_steps, or_none, longest-nil)
+longest_append p o [] later past = grind (arith, common_steps, longest-nil)
 longest_append p o (k ∷ ks) later past =
     let m : HalfMatch = record { pattern = k; offset = o } in
     let here = longest p (pattern_items ks o) in
@@ -97,12 +95,12 @@ longest_here p (k ∷ ks) =
 lower : (a b o : ℕ) → a < b
     → first_of_two (record { pattern = b; offset = o }) (Some (record { pattern = a; offset = o }))
     ≡ Some (record { pattern = a; offset = o })
-lower a b o h = grind (arith, common_steps, or_right, and_from, eq-eqb, lt-ltb)
+lower a b o h = grind (arith, common_steps, or_right)
 
 not_lower : (a b o : ℕ) → b ≤ a
     → first_of_two (record { pattern = b; offset = o }) (Some (record { pattern = a; offset = o }))
     ≡ Some (record { pattern = b; offset = o })
-not_lower a b o h = grind (arith, common_steps, le-ltb, eq-eqb)
+not_lower a b o h = grind (arith, common_steps)
 
 pub longest_row : (p o : ℕ) (k : ℕ) (ks : List ℕ) → p < o
     → (j : ℕ) × (longest p (pattern_items (k ∷ ks) o) ≡ Some (record { pattern = j; offset = o })) × IsLowest (k ∷ ks) j
@@ -127,7 +125,7 @@ longest_row p o k (i ∷ ks) h =
       on ∙ lower j k o below,
       record {
         there = Contains-there k (i ∷ ks) j is.there;
-        least = All-cons (λ x. j ≤ x) k (i ∷ ks) (omega (arith, below)) is.least;
+        least = All-cons (λ x. j ≤ x) k (i ∷ ks) (omega arith) is.least;
       },
     ))
     (λ b. let above = ltb-false j k b in (
@@ -135,14 +133,9 @@ longest_row p o k (i ∷ ks) h =
       on ∙ not_lower j k o above,
       record {
         there = Contains-here k (i ∷ ks);
-        least = All-cons (λ x. k ≤ x) k (i ∷ ks) (omega arith)
-            (λ n d w. let x = is.least n d w in omega (arith, x, above));
+        least = grind (arith, common_steps);
       },
     ))
-
--- there is one lowest
-pub one_lowest : (ks : List ℕ) (j k : ℕ) → IsLowest ks j → IsLowest ks k → j ≡ k
-one_lowest ks j k is other = grind (arith, common_steps)
 
 -- so the longest of a row's matches is of that one
 pub longest_lowest : (p o : ℕ) (ks : List ℕ) (k : ℕ) → p < o → IsLowest ks k
@@ -150,8 +143,7 @@ pub longest_lowest : (p o : ℕ) (ks : List ℕ) (k : ℕ) → p < o → IsLowes
 longest_lowest p o [] k h is = absurd (Contains-nil k is.there)
 longest_lowest p o (i ∷ ks) k h is =
     let row = longest_row p o i ks h in
-    row.1
-    ∙ ap (λ (j : ℕ). Some (record { pattern = j; offset = o })) (one_lowest (i ∷ ks) row.0 k row.2 is)
+    grind (arith, common_steps)
 
 -- ---- what the longest is among them
 
@@ -164,25 +156,13 @@ not_after_self : (m : HalfMatch) → NotAfter m m
 not_after_self m = record { longer = omega arith; lower = λ e. omega arith }
 
 not_after : (a b c : HalfMatch) → NotAfter a b → NotAfter b c → NotAfter a c
-not_after a b c x y = grind (arith, common_steps, lower)
+not_after a b c x y = grind (arith, common_steps)
 
 two_first : (m : HalfMatch) (o : Option HalfMatch) (n : HalfMatch) → first_of_two m o ≡ Some n
     → NotAfter n m × ((k : HalfMatch) → o ≡ Some k → NotAfter n k)
-two_first m None n e = grind (arith, common_steps, not_after_self)
+two_first m None n e = grind (arith, common_steps)
 two_first m (Some k) n e =
-    grind (
-      arith,
-      common_steps,
-      by_test,
-      not_after_self,
-      ltb-true,
-      lower,
-      and_parts,
-      eqb-true,
-      or_parts,
-      ltb-false,
-      eq-eqb,
-    )
+    grind (arith, common_steps, by_test, not_after_self, ltb-true, lower, and_parts, eqb-true)
 
 pub longest_there : (p : ℕ) (items : List Item) (m : HalfMatch) → longest p items ≡ Some m
     → Contains items (Item.Reported m)
@@ -192,8 +172,7 @@ longest_there p (Item.Skipped ∷ items) m e =
 longest_there p (Item.Reported n ∷ items) m e =
     by_test (nat_lt p n.offset)
     (λ b. ⊎_elim
-    (λ (same : n ≡ m). subst (λ (x : HalfMatch). Contains (Item.Reported n ∷ items) (Item.Reported x)) same
-    (Contains-here (Item.Reported n) items))
+    (λ (same : n ≡ m). grind (arith, common_steps))
     (λ (later : longest p items ≡ Some m).
     Contains-there (Item.Reported n) items (Item.Reported m) (longest_there p items m later))
     (first_is n (longest p items) m (sym (longest_past p n items (ltb-true p n.offset b)) ∙ e)))
@@ -221,8 +200,7 @@ some_longest p (Item.Reported k ∷ items) n c h =
       two.0,
       on ∙ two.1,
       ⊎_elim
-          (λ (same : Item.Reported k ≡ Item.Reported n).
-          subst (NotAfter two.0) (reported_same k n same) facts.0)
+          (λ (same : Item.Reported k ≡ Item.Reported n). grind (arith, common_steps, reported_same))
           (λ (d : Contains items (Item.Reported n)).
           let later = some_longest p items n d h in
           not_after two.0 later.0 n (facts.1 later.0 later.1) later.2)
@@ -231,8 +209,7 @@ some_longest p (Item.Reported k ∷ items) n c h =
     (λ b. let low = ltb-false p k.offset b in
     let on = longest_empty p k items low in
     ⊎_elim
-    (λ (same : Item.Reported k ≡ Item.Reported n).
-    absurd (let e = ap (λ (x : HalfMatch). x.offset) (reported_same k n same) in omega (arith, low, h, e)))
+    (λ (same : Item.Reported k ≡ Item.Reported n). grind (arith, common_steps, reported_same))
     (λ (d : Contains items (Item.Reported n)).
     let later = some_longest p items n d h in (later.0, on ∙ later.1, later.2))
     (Contains-cases (Item.Reported k) items (Item.Reported n) c))

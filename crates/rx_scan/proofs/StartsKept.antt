@@ -26,18 +26,17 @@ module _ (t : Table) (ids : List ℕ) {text kept : List ℕ} {p : ℕ} (place : 
 
   here : before text p ≡ Some byte
   here =
-      let within = place.within in
-      let e : p ≡ suc (p - 1) = omega (arith, place.past) in
-      ap (before text) e ∙ slice_get-get_or text (p - 1) 0 (omega (arith, place.past, within))
+      let e : p ≡ suc (p - 1) = omega arith in
+      ap (before text) e ∙ slice_get-get_or text (p - 1) 0 (omega arith)
 
   below : byte < 256
-  below = let within = place.within in place.bytes (p - 1) 0 (omega (arith, place.past, within))
+  below = let within = place.within in place.bytes (p - 1) 0 (omega arith)
 
   there : byte < length kept
-  there = let below = below in omega (arith, below, place.whole)
+  there = let below = below in omega arith
 
   pub start_behind : (d : ℕ) → not (slice_index_or kept byte d == 0) ≡ true → StartsHere (slice_index_or kept byte d)
-  start_behind d some = grind (arith, common_steps, slice_index_or, eq-eqb, get_or_default_zero, there, below, here)
+  start_behind d some = grind (arith, common_steps, slice_index_or, eq-eqb, get_or_default_zero, here)
 
   pub start_kept : (id : ℕ) → StartsHere id → AreStarts t ids (slice_set kept byte id)
   start_kept id s b low some =

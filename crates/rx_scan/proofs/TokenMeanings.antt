@@ -28,7 +28,7 @@ module _ {t : Table} {plan : Plan} {es : List Expression} {text : List ℕ} {p :
       let one = some_longest p found.items (record { pattern = k; offset = end })
       ((all_are_told t plan es text p is told.0 k end).1 matches) past in
       subst (λ (x : HalfMatch). NotAfter x (record { pattern = k; offset = end }))
-      (cc (one.1, told.1))
+      (cc)
       one.2 in
       record {
         above = above;
@@ -36,7 +36,7 @@ module _ {t : Table} {plan : Plan} {es : List Expression} {text : List ℕ} {p :
         longest = λ k end matches.
             ⊎_elim
             (λ (past : p < end). (first k end matches past).longer)
-            (λ (low : end ≤ p). omega (arith, low, above))
+            (λ (low : end ≤ p). omega arith)
             (cases_lt p end);
         lowest = λ k matches. (first k m.offset matches above).lower refl;
       }
@@ -49,6 +49,6 @@ module _ {t : Table} {plan : Plan} {es : List Expression} {text : List ℕ} {p :
       ⊎_elim
       (λ (past : p < end). absurd (let one = some_longest p found.items (record { pattern = k; offset = end })
       ((all_are_told t plan es text p is told.0 k end).1 matches) past in
-      cc (told.1, one.1)))
+      (cc)))
       (λ (low : end ≤ p). low)
       (cases_lt p end)

@@ -1,13 +1,12 @@
 -- The tokens from a place on: the first of them, and those behind it.
-use Rattle.rx_spec.proofs.Prelude.{common_steps, ◌≡◌, ℕ, zero, suc, ◌+◌, ◌-◌, ◌<◌, ◌≤◌, Bool, true, false, Option, Some}
+use Rattle.rx_spec.proofs.Prelude.{common_steps, ◌≡◌, ℕ, zero, suc, ◌-◌, ◌<◌, ◌≤◌, Bool, true, false, Option, Some}
 use Rattle.rx_spec.proofs.Prelude.{None, Ok, List, ◌∷◌, length, refl, ap, sym, ◌∙◌, subst, arith, ltb-true, ltb-false}
-use Rattle.rx_spec.proofs.Prelude.{lt-ltb, le-ltb, nat_lt, is_some, HalfMatch, MatchError, HalfAnswer, Ending}
-use Rattle.rx_spec.proofs.Prelude.{OverlappingMatches, Table, AreBytes}
+use Rattle.rx_spec.proofs.Prelude.{nat_lt, is_some, HalfMatch, MatchError, HalfAnswer, Ending, OverlappingMatches}
+use Rattle.rx_spec.proofs.Prelude.{Table, AreBytes}
 use Rattle.lemmas_walks.proofs.Firsts.{by_test}
 use Rattle.rx_all.specs.Matches.{query_at, told_at}
 use Rattle.rx_scan.specs.Tokens.{longest, longest_of, unless_ended, Tokens, no_more, token_at, then_tokens, tokens_from}
-use Rattle.rx_scan.specs.Tokens.{tokens_left, error_end, Scan, NextToken, line_feeds, line_start, Cover, IsMeant}
-use Rattle.rx_scan.specs.Tokens.{IsMeantEnd}
+use Rattle.rx_scan.specs.Tokens.{tokens_left, error_end, Scan, NextToken, Cover, IsMeant, IsMeantEnd}
 use Rattle.rx_spec.specs.declared.Direction.{Direction}
 use Rattle.lemmas_walks.proofs.OverlappingBounds.{overlapping_in_span}
 use Rattle.rx_scan.proofs.TokenMeanings.{longest_is_match, none_matches}
@@ -33,12 +32,12 @@ module _ (t : Table) (text : List ℕ) where
   pub no_bytes : (n p : ℕ) → length text ≤ p → tokens_from t text n p ≡ no_more ScanEnd.Done
   unfolding tokens_from
   no_bytes zero p h = refl
-  no_bytes (suc n) p h = grind (arith, common_steps, le-ltb)
+  no_bytes (suc n) p h = grind (arith, common_steps)
 
   pub turn : (n p : ℕ) → p < length text
       → tokens_from t text (suc n) p ≡ then_tokens text p (answer p) (λ next. tokens_from t text n next)
   unfolding tokens_from
-  turn n p h = grind (arith, common_steps, lt-ltb)
+  turn n p h = grind (arith, common_steps)
 
   uncut : (n k p : ℕ) → length text - p ≤ n → length text - p ≤ k → tokens_from t text n p ≡ tokens_from t text k p
   uncut zero k p h i = no_bytes zero p (omega arith) ∙ sym (no_bytes k p (omega arith))
@@ -49,7 +48,7 @@ module _ (t : Table) (text : List ℕ) where
       turn n p more
       ∙ then_alike text p (answer p) (λ next. tokens_from t text n next) (λ next. tokens_from t text k next)
       (λ m e. let on = longest_of_ends p (told_at t text p) m e in
-      uncut n k m.offset (omega (arith, h, on, more)) (omega (arith, i, on, more)))
+      uncut n k m.offset (omega arith) (omega arith))
       ∙ sym (turn k p more))
       (λ b. let past = ltb-false p (length text) b in no_bytes (suc n) p past ∙ sym (no_bytes (suc k) p past))
 
@@ -58,14 +57,11 @@ module _ (t : Table) (text : List ℕ) where
       → tokens_left t text p ≡ then_tokens text p (longest_of p (told_at t text p)) (λ next. tokens_left t text next)
   tokens_again p more =
       let n = length text - p - 1 in
-      let one : length text - p ≡ suc n = omega (arith, more) in
-      ap (λ k. tokens_from t text k p) one ∙ turn n p more
-      ∙ then_alike text p (answer p) (λ next. tokens_from t text n next) (λ next. tokens_left t text next)
-      (λ m e. let on = longest_of_ends p (told_at t text p) m e in
-      uncut n (length text - m.offset) m.offset (omega (arith, on, more)) (omega arith))
+      let one : length text - p ≡ suc n = omega arith in
+      grind (arith, common_steps, turn, longest_of_ends, uncut)
 
   pub no_tokens : (p : ℕ) → p ≡ length text → tokens_left t text p ≡ no_more ScanEnd.Done
-  no_tokens p e = no_bytes (length text - p) p (omega (arith, e))
+  no_tokens p e = no_bytes (length text - p) p (omega arith)
 
 -- ---- what the tokens cover
 
@@ -90,14 +86,14 @@ module _ (t : Table) (text : List ℕ) where
   no_cover p more end other = grind (arith, common_steps)
 
   done_cover : (p : ℕ) → p ≡ length text → Cover text p (no_more ScanEnd.Done)
-  done_cover p e = record { stop = p; joined = refl; within = omega (arith, e); whole = (λ d. e, λ d. refl) }
+  done_cover p e = record { stop = p; joined = refl; within = omega arith; whole = (λ d. e, λ d. refl) }
 
   cover_by : (n p : ℕ) → p < length text → (answer : HalfAnswer) → longest_of p (told_at t text p) ≡ answer
       → ((m : HalfMatch) → p < m.offset → m.offset ≤ length text → Cover text m.offset (tokens_from t text n m.offset))
       → Cover text p (then_tokens text p answer (λ next. tokens_from t text n next))
   cover_by n p more (Ok None) is rest = no_cover p more (ScanEnd.Stuck p) (λ e. absurd (cc))
   cover_by n p more (Ok (Some m)) is rest = grind (arith, common_steps, longest_of_ends, longest_of_within)
-  cover_by n p more _ is rest = grind (arith, common_steps, no_cover)
+  cover_by n p more _ is rest = grind (arith, common_steps)
 
   pub tokens_cover : (n p : ℕ) → length text - p ≤ n → p ≤ length text → Cover text p (tokens_from t text n p)
   tokens_cover zero p h within = grind (arith, common_steps, no_bytes, done_cover)
@@ -106,10 +102,8 @@ module _ (t : Table) (text : List ℕ) where
       (λ b. let more = ltb-true p (length text) b in
       subst (Cover text p) (sym (turn t text n p more))
       (cover_by n p more (longest_of p (told_at t text p)) refl
-      (λ m above upto. tokens_cover n m.offset (omega (arith, h, above, more)) upto)))
-      (λ b. let past = ltb-false p (length text) b in
-      let e : p ≡ length text = omega (arith, past, within) in
-      subst (Cover text p) (sym (no_bytes t text (suc n) p past)) (done_cover p e))
+      (λ m above upto. tokens_cover n m.offset (omega arith) upto)))
+      (λ b. grind (arith, common_steps, ltb-false, no_bytes, done_cover))
 
 -- ---- calls of a scanner at a place
 
@@ -142,8 +136,7 @@ module _ (t : Table) (text : List ℕ) (p : ℕ) (end : Option ScanEnd) (goes : 
   token_now m more bytes found =
       let behind = tokens_left t text m.offset in
       let first : tokens_left t text p ≡ record { tokens = token_at text p m ∷ behind.tokens; end = behind.end }
-      = tokens_again t text p more ∙ ap (λ (a : HalfAnswer). then_tokens text p a (λ next. tokens_left t text next))
-      found in
+      = grind (arith, common_steps, tokens_again) in
       let at : scan_of t text p end
       ≡ scanned (record { tokens = token_at text p m ∷ behind.tokens; end = behind.end }) false
       = open_scan ∙ ap (λ (left : Tokens). scanned left false) first in
@@ -152,8 +145,7 @@ module _ (t : Table) (text : List ℕ) (p : ℕ) (end : Option ScanEnd) (goes : 
       longest_is_match {plan = plan} (record { serves = serves; safe = safe; bytes = bytes; more = more }) m found in
       let later = open_later m.offset end goes in
       record {
-        first = ap (λ (s : Scan). s.left.tokens) at
-            ∙ ap (λ (s : Scan). token_at text p m ∷ s.left.tokens) (sym later);
+        first = grind (arith, common_steps);
         end = ap (λ (s : Scan). s.left.end) later ∙ sym (ap (λ (s : Scan). s.left.end) at);
         over = ap (λ (s : Scan). s.is_over) later;
         table = ap (λ (s : Scan). s.table) later ∙ sym (ap (λ (s : Scan). s.table) at);
@@ -173,18 +165,6 @@ pub ends_now : (t : Table) (text : List ℕ) (p : ℕ) → p < length text → {
     → then_tokens text p answer (λ next. tokens_left t text next) ≡ no_more why
     → tokens_left t text p ≡ no_more why
 ends_now t text p more {answer} {why} says none = grind (arith, common_steps, tokens_again)
-
--- a token, as it is made of what a scanner keeps
-pub token_made : (t : Table) (text : List ℕ) (p : ℕ) (e : Option ScanEnd) {s : Scan} (m : HalfMatch)
-    (pattern end feeds start : ℕ) → pattern ≡ m.pattern → end ≡ m.offset → feeds ≡ line_feeds text p
-    → start ≡ line_start text p → NextToken s (Some (token_at text p m)) (scan_of t text m.offset e)
-    → NextToken s (Some (record {
-      pattern = pattern;
-      span = record { start = p; end = end };
-      line = feeds + 1;
-      column = p - start + 1;
-    })) (scan_of t text end e)
-token_made t text p e {s} m pattern end feeds start a b c d next = grind (arith, common_steps)
 
 -- where a scan is stuck, no pattern has an end past the place
 pub stuck_meant : (t : Table) (text : List ℕ) (p : ℕ) → p < length text → AreBytes text

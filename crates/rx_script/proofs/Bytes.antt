@@ -45,8 +45,7 @@ pairs_spelled (high ∷ (low ∷ cs)) bytes e =
       Spelled : List ℕ → Type 0
       Spelled x = SpellsPairs x (high ∷ (low ∷ cs))
 
-      on
-          : (o : Option ℕ) (r : Option (List ℕ)) → byte_of high low ≡ o → pairs_of cs ≡ r
+      on : (o : Option ℕ) (r : Option (List ℕ)) → byte_of high low ≡ o → pairs_of cs ≡ r
           → ((bs : List ℕ) → pairs_of cs ≡ Some bs → SpellsPairs bs cs) → with_byte o r ≡ Some bytes
           → SpellsPairs bytes (high ∷ (low ∷ cs))
       on None r p q again z = absurd cc

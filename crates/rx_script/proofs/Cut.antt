@@ -15,8 +15,7 @@ chosen_none true x e = absurd cc
 chosen_none false x e = refl
 
 -- a search for the first byte gives its position
-pub first_is_position
-    : (c : ℕ) (text : List ℕ) (first : Option ℕ) → IsFirstByte (is_byte c) text first
+pub first_is_position : (c : ℕ) (text : List ℕ) (first : Option ℕ) → IsFirstByte (is_byte c) text first
     → first ≡ position (λ b. eqb b c) text
 first_is_position c text None nowhere =
     let p = λ (b : ℕ). eqb b c in
@@ -30,8 +29,7 @@ first_is_position c text (Some at) found =
     let place = position_or_len_is p text at 0 (omega arith) fails (λ h. found.1) in
     rw (place, lt-ltb at (length text) high) refl
 
-pub split_at
-    : (c : ℕ) (text : List ℕ) (at : ℕ) → position (λ b. eqb b c) text ≡ Some at
+pub split_at : (c : ℕ) (text : List ℕ) (at : ℕ) → position (λ b. eqb b c) text ≡ Some at
     → slice_split (λ b. eqb b c) text ≡ take at text ∷ slice_split (λ b. eqb b c) (drop (at + 1) text)
 split_at c text at e =
     let p = λ (b : ℕ). eqb b c in
@@ -60,14 +58,12 @@ cut_is c (b ∷ bs) = on (eqb b c) (position_or_len (λ x. eqb x c) bs) (cut_is 
       let later : ltb (suc m) (suc (length bs)) ≡ ltb m (length bs) = grind (arith, nat_tests) in
       rw (e, after, later) refl
 
-  on
-      : (t : Bool) (n : ℕ) → cut c bs ≡ parts_at n bs
+  on : (t : Bool) (n : ℕ) → cut c bs ≡ parts_at n bs
       → cond t ([], Some bs) (b ∷ (cut c bs).0, (cut c bs).1) ≡ parts_at (cond (not t) (1 + n) 0) (b ∷ bs)
   on true n e = ap (λ (t : Bool). ([], cond t (Some bs) None)) (sym (lt-ltb 0 (length (b ∷ bs)) (omega arith)))
   on false n e = ap (λ (p : List ℕ × Option (List ℕ)). (b ∷ p.0, p.1)) e ∙ sym (shifted (1 + n) n (omega arith))
 
-pub cut_at
-    : (c : ℕ) (text : List ℕ) (at : ℕ) → position (λ b. eqb b c) text ≡ Some at
+pub cut_at : (c : ℕ) (text : List ℕ) (at : ℕ) → position (λ b. eqb b c) text ≡ Some at
     → cut c text ≡ (take at text, Some (drop (at + 1) text))
 cut_at c text at e =
     let place = position_or_len (λ b. eqb b c) text in
@@ -87,8 +83,7 @@ trimmed [] = []
 trimmed (piece ∷ []) = alone piece
 trimmed (piece ∷ (next ∷ pieces)) = piece ∷ trimmed (next ∷ pieces)
 
-onto_trimmed
-    : (b : ℕ) (pieces : List (List ℕ)) → 0 < length pieces
+onto_trimmed : (b : ℕ) (pieces : List (List ℕ)) → 0 < length pieces
     → onto_first b (trimmed pieces) ≡ trimmed (onto_first b pieces)
 onto_trimmed b [] h = absurd (omega arith)
 onto_trimmed b ([] ∷ []) h = refl
@@ -104,8 +99,7 @@ trimmed_more
 trimmed_more piece [] h = absurd (omega arith)
 trimmed_more piece (next ∷ pieces) h = refl
 
-lines_step
-    : (t : Bool) (b : ℕ) (lines pieces : List (List ℕ)) → 0 < length pieces → lines ≡ trimmed pieces
+lines_step : (t : Bool) (b : ℕ) (lines pieces : List (List ℕ)) → 0 < length pieces → lines ≡ trimmed pieces
     → cond t ([] ∷ lines) (onto_first b lines) ≡ trimmed (cond t ([] ∷ pieces) (onto_first b pieces))
 lines_step true b lines pieces h e = ap (λ (ls : List (List ℕ)). [] ∷ ls) e ∙ sym (trimmed_more [] pieces h)
 lines_step false b lines pieces h e = ap (onto_first b) e ∙ onto_trimmed b pieces h
@@ -120,11 +114,9 @@ text_left None = []
 text_left (Some text) = text
 
 -- the first line, from the first cut
-pub lines_next
-    : (text line : List ℕ) (left : Option (List ℕ)) → 0 < length text
+pub lines_next : (text line : List ℕ) (left : Option (List ℕ)) → 0 < length text
     → length line + 1 + bytes_left left ≡ length text + 1
-    → slice_split (λ b. eqb b 10) text ≡ line ∷ pieces_left 10 left
-    → lines_of text ≡ line ∷ lines_of (text_left left)
+    → slice_split (λ b. eqb b 10) text ≡ line ∷ pieces_left 10 left → lines_of text ≡ line ∷ lines_of (text_left left)
 lines_next text (b ∷ bs) None some len e = lines_trimmed text ∙ ap trimmed e
 lines_next text [] None some len e = absurd (omega arith)
 lines_next text line (Some more) some len e =

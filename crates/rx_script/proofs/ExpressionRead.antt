@@ -30,8 +30,7 @@ in_front-append xs ys (Ok r) = ap (λ (l : List Item). Ok l) (sym (append_assoc 
 in_front-append xs ys (Err e) = refl
 
 -- a word, and what is read after it
-step
-    : (n missing : ℕ) (awaited : Awaited) (word : List ℕ) (words : List (List ℕ)) (t : Taken)
+step : (n missing : ℕ) (awaited : Awaited) (word : List ℕ) (words : List (List ℕ)) (t : Taken)
     → take_word n awaited missing word ≡ Ok t
     → items_at n awaited missing (word ∷ words) ≡ with_item t.item (items_at n t.awaited t.missing words)
 unfolding items_at
@@ -39,16 +38,14 @@ step n missing awaited word words t e =
     ap (λ (r : Result Taken Fault). r >>= λ t. with_item t.item (items_at n t.awaited t.missing words)) e
 
 -- a word that gives no item
-silent
-    : (n missing : ℕ) (awaited next : Awaited) (word : List ℕ) (words : List (List ℕ))
+silent : (n missing : ℕ) (awaited next : Awaited) (word : List ℕ) (words : List (List ℕ))
     → take_word n awaited missing word ≡ taken next missing None
     → items_at n awaited missing (word ∷ words) ≡ items_at n next missing words
 silent n missing awaited next word words e =
     step n missing awaited word words (told next missing None) e ∙ in_front-nil (items_at n next missing words)
 
 -- the first word, where so many expressions are awaited and one more
-first
-    : (n missing : ℕ) (head : Head) (words : List (List ℕ)) (t : Taken) → by_head n (suc missing) (Some head) ≡ Ok t
+first : (n missing : ℕ) (head : Head) (words : List (List ℕ)) (t : Taken) → by_head n (suc missing) (Some head) ≡ Ok t
     → items_at n Awaited.Head (suc missing) (head_name head ∷ words)
     ≡ with_item t.item (items_at n t.awaited t.missing words)
 unfolding take_word take_head
@@ -56,22 +53,19 @@ first n missing head words t e =
     let some = ne_eqb (suc missing) 0 (λ z. omega arith) in
     step n (suc missing) Awaited.Head (head_name head) words t (rw (some, head_read head) e)
 
-one_less
-    : (missing : ℕ) (awaited : Awaited) (item : Option Item)
+one_less : (missing : ℕ) (awaited : Awaited) (item : Option Item)
     → taken awaited (suc missing - 1) item ≡ taken awaited missing item
 one_less missing awaited item =
     let e : suc missing - 1 ≡ missing = omega arith in ap (λ (m : ℕ). taken awaited m item) e
 
-one_more
-    : (missing : ℕ) (item : Item)
+one_more : (missing : ℕ) (item : Item)
     → taken Awaited.Head (suc missing + 1) (Some item) ≡ taken Awaited.Head (suc (suc missing)) (Some item)
 one_more missing item =
     let e : suc missing + 1 ≡ suc (suc missing) = omega arith in ap (λ (m : ℕ). taken Awaited.Head m (Some item)) e
 
 -- The words of a phrase, with others after them, are read as its items.
 record Reads (n : ℕ) (p : Phrase) : Type 0 where
-  read
-      : (missing : ℕ) (words rest : List (List ℕ)) → SpellsPhrase p words
+  read : (missing : ℕ) (words rest : List (List ℕ)) → SpellsPhrase p words
       → items_at n Awaited.Head (suc missing) (words ++ rest)
       ≡ in_front (items_of p) (items_at n Awaited.Head missing rest)
 
@@ -86,8 +80,7 @@ record Leaf (n : ℕ) (item : Item) : Type 0 where
   headed : (missing : ℕ) → by_head n (suc missing) (Some head) ≡ taken awaited missing None
   operand : (missing : ℕ) → take_word n awaited missing word ≡ taken Awaited.Head missing (Some item)
 
-leaf_read
-    : {n : ℕ} {item : Item} (leaf : Leaf n item) (missing : ℕ) (words rest : List (List ℕ))
+leaf_read : {n : ℕ} {item : Item} (leaf : Leaf n item) (missing : ℕ) (words rest : List (List ℕ))
     → words ≡ head_name leaf.head ∷ (leaf.word ∷ [])
     → before n missing rest words ≡ in_front (item ∷ []) (items_at n Awaited.Head missing rest)
 leaf_read {n = n} {item = item} leaf missing words rest e =
@@ -131,8 +124,7 @@ look_leaf n look = record {
 record Join (n : ℕ) (head : Head) (item : Item) : Type 0 where
   headed : (missing : ℕ) → by_head n (suc missing) (Some head) ≡ taken Awaited.Head (suc (suc missing)) (Some item)
 
-two_read
-    : {n : ℕ} {head : Head} {item : Item} {a b : Phrase} → Join n head item → Reads n a → Reads n b
+two_read : {n : ℕ} {head : Head} {item : Item} {a b : Phrase} → Join n head item → Reads n a → Reads n b
     → (missing : ℕ) (words rest : List (List ℕ)) → SpellsTwo head (SpellsPhrase a) (SpellsPhrase b) words
     → before n missing rest words ≡ in_front (item ∷ (items_of a ++ items_of b)) (items_at n Awaited.Head missing rest)
 two_read {n = n} {head = head} {item = item} {a = a} {b = b} join reads_a reads_b missing words rest s =
@@ -147,20 +139,17 @@ two_read {n = n} {head = head} {item = item} {a = a} {b = b} join reads_a reads_
     (join.headed missing)
     ∙ ap (in_front (item ∷ [])) both ∙ in_front-append (item ∷ []) (items_of a ++ items_of b) after
 
-least_read
-    : (n missing least : ℕ) (word : List ℕ) → number_of word ≡ Some least
+least_read : (n missing least : ℕ) (word : List ℕ) → number_of word ≡ Some least
     → take_word n Awaited.Least missing word ≡ taken (Awaited.Most least) missing None
 unfolding take_word
 least_read n missing least word e = rw e refl
 
-most_taken
-    : (n missing least : ℕ) (most : Option ℕ) (word : List ℕ) → most_of word ≡ Some most
+most_taken : (n missing least : ℕ) (most : Option ℕ) (word : List ℕ) → most_of word ≡ Some most
     → take_word n (Awaited.Most least) missing word ≡ taken (Awaited.Greed least most) missing None
 unfolding take_word
 most_taken n missing least most word e = rw e refl
 
-greed_taken
-    : (n missing least : ℕ) (most : Option ℕ) (greedy : Bool)
+greed_taken : (n missing least : ℕ) (most : Option ℕ) (greedy : Bool)
     → take_word n (Awaited.Greed least most) missing (greed_name greedy)
     ≡ taken Awaited.Head missing (Some (Item.Repeat least most greedy))
 unfolding take_word
@@ -215,14 +204,12 @@ phrase_reads n (Phrase.Repeat least most greedy body) = record {
 within_depth : (n : ℕ) (e : Expression) (parts : List Expression) → IsShallow e → shallow n e parts ≡ Ok (e ∷ parts)
 within_depth n e parts le = rw (le-ltb max_depth (depth e) le) refl
 
-in_bounds
-    : (least : ℕ) (most : Option ℕ) (body : Expression) → IsBounded least most body
+in_bounds : (least : ℕ) (most : Option ℕ) (body : Expression) → IsBounded least most body
     → (is_bad_range least most ≡ false) × (is_empty_body most body ≡ false)
 in_bounds least None body h = (refl, ne_eqb (min_len body) 0 (λ e. omega arith))
 in_bounds least (Some most) body h = (le-ltb most least h, refl)
 
-phrase_made
-    : (n : ℕ) (p : Phrase) (parts : List Expression) → IsAccepted p
+phrase_made : (n : ℕ) (p : Phrase) (parts : List Expression) → IsAccepted p
     → made_onto n (items_of p) parts ≡ Ok (meaning p ∷ parts)
 unfolding made_onto
 phrase_made n (Phrase.Concat p q) parts a =

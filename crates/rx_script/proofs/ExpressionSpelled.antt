@@ -1,8 +1,8 @@
 -- Expressions: what is read is spelled so.
-use Rattle.rx_spec.proofs.Prelude.{◌≡◌, ℕ, suc, ◌+◌, ◌-◌, ◌<◌, Bool, eqb, ltb, List, [], ◌∷◌, ◌++◌, length, Option}
-use Rattle.rx_spec.proofs.Prelude.{Some, None, Result, Ok, refl, sym, ap, subst, ◌∙◌, append_assoc, append-nil, arith}
-use Rattle.rx_spec.proofs.Prelude.{inl, inr, option_to_list, cases_Bool, eqb-true, eqb-false, ltb-false, Expression}
-use Rattle.rx_spec.proofs.Prelude.{min_len, depth, IsBounded}
+use Rattle.rx_spec.proofs.Prelude.{common_steps, rules, ◌≡◌, ℕ, suc, ◌+◌, ◌-◌, ◌<◌, Bool, eqb, ltb, List, [], ◌∷◌, ◌++◌}
+use Rattle.rx_spec.proofs.Prelude.{length, Option, Some, None, Result, Ok, refl, sym, ap, subst, ◌∙◌, append_assoc}
+use Rattle.rx_spec.proofs.Prelude.{append-nil, arith, inl, inr, option_to_list, cases_Bool, eqb-true, eqb-false}
+use Rattle.rx_spec.proofs.Prelude.{ltb-false, Expression, min_len, depth, IsBounded}
 use Rattle.rx_spec.specs.declared.Look.{Look}
 use Rattle.rx_expr.specs.Expr.{literal_of}
 use Rattle.rx_script.specs.declared.expression.Item.{Item}
@@ -23,7 +23,7 @@ use Rattle.rx_script.proofs.Tables.{head_spelled, look_spelled, greed_spelled}
 use Rattle.rx_script.proofs.Numbers.{number_spelled, most_spelled}
 use Rattle.rx_script.proofs.Bytes.{bytes_spelled}
 use Rattle.rx_script.proofs.Sets.{set_spelled}
-use Rattle.rx_script.proofs.Phrases.{items_of, SpellsPhrases, all_items, told}
+use Rattle.rx_script.proofs.Phrases.{items_of, SpellsPhrases, all_items}
 use Rattle.std.proofs.Math.Nat.{pos_of_ne-zero}
 
 -- ---- what is awaited is spelled
@@ -103,36 +103,18 @@ record Gave
   after : IsAwaited awaited missing words more
   items_are : items ≡ option_to_list item ++ more
 
-gave
-    : {step : Result Taken Fault} {words : List (List ℕ)} {items : List Item} (s : Stepped step words items)
+gave : {step : Result Taken Fault} {words : List (List ℕ)} {items : List Item} (s : Stepped step words items)
     → (awaited : Awaited) (missing : ℕ) (item : Option Item) → taken awaited missing item ≡ Ok s.t
     → Gave awaited missing item words items
-gave {words = words} {items = items} s awaited missing item e =
-    let given = ok_is (told awaited missing item) s.t e in
-    record {
-      more = s.more;
-      after = subst (λ (t : Taken). IsAwaited t.awaited t.missing words s.more) (sym given) s.after;
-      items_are = subst (λ (t : Taken). items ≡ option_to_list t.item ++ s.more) (sym given) s.items_are;
-    }
+gave {words = words} {items = items} s awaited missing item e = grind (arith, common_steps, ok_is)
 
-operand
-    : {P : List ℕ → Item → Type 0} {missing : ℕ} {item : Item} {words : List (List ℕ)} {items : List Item}
+operand : {P : List ℕ → Item → Type 0} {missing : ℕ} {item : Item} {words : List (List ℕ)} {items : List Item}
     → (word : List ℕ) → P word item → Gave Awaited.Head missing (Some item) words items
     → IsOperand P missing (word ∷ words) items
-operand {item = item} {words = words} word is g = record {
-  word = word;
-  rest = words;
-  item = item;
-  more = g.more;
-  operand = is;
-  words_are = refl;
-  items_are = g.items_are;
-  others = g.after;
-}
+operand {item = item} {words = words} word is g = search rules
 
 -- a word that says a value, of which the item is made
-value_step
-    : {A : Type 0} {P : List ℕ → Item → Type 0} {missing : ℕ} {words : List (List ℕ)} {items : List Item}
+value_step : {A : Type 0} {P : List ℕ → Item → Type 0} {missing : ℕ} {words : List (List ℕ)} {items : List Item}
     → (n : ℕ) (word : List ℕ) (o : Option A) (item : A → Item) → ((x : A) → o ≡ Some x → P word (item x))
     → Stepped (needed n BadKind.Expr o >>= λ x. complete missing (item x)) words items
     → IsOperand P missing (word ∷ words) items
@@ -140,8 +122,7 @@ value_step {missing = missing} n word o item is s =
     let x = needed_then n BadKind.Expr o (λ x. complete missing (item x)) s.t s.took in
     operand word (is x.0 x.1) (gave s Awaited.Head missing (Some (item x.0)) x.2)
 
-most_step
-    : (n : ℕ) {missing : ℕ} {words : List (List ℕ)} {items : List Item} (least : ℕ) (word : List ℕ)
+most_step : (n : ℕ) {missing : ℕ} {words : List (List ℕ)} {items : List Item} (least : ℕ) (word : List ℕ)
     → Stepped (take_word n (Awaited.Most least) missing word) words items → IsMost least missing (word ∷ words) items
 unfolding take_word
 most_step n {missing = missing} {words = words} least word s =
@@ -157,8 +138,7 @@ most_step n {missing = missing} {words = words} least word s =
       greed = subst (IsOperand (SpellsGreed least b.0) missing words) (sym g.items_are) g.after;
     }
 
-least_step
-    : (n : ℕ) {missing : ℕ} {words : List (List ℕ)} {items : List Item} (word : List ℕ)
+least_step : (n : ℕ) {missing : ℕ} {words : List (List ℕ)} {items : List Item} (word : List ℕ)
     → Stepped (take_word n Awaited.Least missing word) words items → IsLeast missing (word ∷ words) items
 unfolding take_word
 least_step n {missing = missing} {words = words} word s =
@@ -177,8 +157,7 @@ least_step n {missing = missing} {words = words} word s =
 -- ---- the first word of an expression
 
 -- a phrase in front of those after it
-in_front
-    : {left : ℕ} {rest : List (List ℕ)} {more : List Item} (missing : ℕ) (p : Phrase) (xs : List (List ℕ))
+in_front : {left : ℕ} {rest : List (List ℕ)} {more : List Item} (missing : ℕ) (p : Phrase) (xs : List (List ℕ))
     → SpellsPhrase p xs → suc left ≡ missing → AreSpelled left rest more
     → AreSpelled missing (xs ++ rest) (items_of p ++ more)
 in_front {rest = rest} missing p xs s count others = record {
@@ -189,20 +168,17 @@ in_front {rest = rest} missing p xs s count others = record {
 }
 
 -- the same words and items
-renamed
-    : {missing : ℕ} {words words' : List (List ℕ)} {items items' : List Item} → words' ≡ words → items' ≡ items
+renamed : {missing : ℕ} {words words' : List (List ℕ)} {items items' : List Item} → words' ≡ words → items' ≡ items
     → AreSpelled missing words items → AreSpelled missing words' items'
 renamed {missing = missing} {words' = words'} {items = items} e f s =
     subst (AreSpelled missing words') (sym f) (subst (λ (w : List (List ℕ)). AreSpelled missing w items) (sym e) s)
 
 -- a phrase of a head and an operand
 record Leaf (P : List ℕ → Item → Type 0) (head : Head) : Type 0 where
-  phrase
-      : (word : List ℕ) (item : Item) → P word item
+  phrase : (word : List ℕ) (item : Item) → P word item
       → (p : Phrase) × SpellsPhrase p (head_name head ∷ (word ∷ [])) × (item ∷ [] ≡ items_of p)
 
-leaf_first
-    : {P : List ℕ → Item → Type 0} {missing : ℕ} {head : Head} {words : List (List ℕ)} {items : List Item}
+leaf_first : {P : List ℕ → Item → Type 0} {missing : ℕ} {head : Head} {words : List (List ℕ)} {items : List Item}
     → Leaf P head → 0 < missing → IsOperand P (missing - 1) words items
     → AreSpelled missing (head_name head ∷ words) items
 leaf_first {missing = missing} {head = head} leaf some o =
@@ -230,19 +206,16 @@ look_leaf = record {
 -- a head of two phrases
 record Join (head : Head) (item : Item) : Type 0 where
   join : Phrase → Phrase → Phrase
-  spells
-      : (a b : Phrase) (xs ys : List (List ℕ)) → SpellsPhrase a xs → SpellsPhrase b ys
+  spells : (a b : Phrase) (xs ys : List (List ℕ)) → SpellsPhrase a xs → SpellsPhrase b ys
       → SpellsPhrase (join a b) (head_name head ∷ (xs ++ ys))
   items_are : (a b : Phrase) → items_of (join a b) ≡ item ∷ (items_of a ++ items_of b)
 
-two_first
-    : {missing : ℕ} {head : Head} {item : Item} {words : List (List ℕ)} {items : List Item} → Join head item
+two_first : {missing : ℕ} {head : Head} {item : Item} {words : List (List ℕ)} {items : List Item} → Join head item
     → 0 < missing → Gave Awaited.Head (missing + 1) (Some item) words items
     → AreSpelled missing (head_name head ∷ words) items
 two_first {missing = missing} {head = head} {item = item} {words = words} {items = items} j some g =
     let s = g.after in on s.phrases s.count s.spelled s.items_are where
-      on
-          : (ps : List Phrase) → length ps ≡ missing + 1 → SpellsPhrases ps words → g.more ≡ all_items ps
+      on : (ps : List Phrase) → length ps ≡ missing + 1 → SpellsPhrases ps words → g.more ≡ all_items ps
           → AreSpelled missing (head_name head ∷ words) items
       on [] c p q = absurd (omega arith)
       on (a ∷ []) c p q = absurd (omega arith)
@@ -261,16 +234,14 @@ two_first {missing = missing} {head = head} {item = item} {words = words} {items
 concat_join : Join Head.Concat Item.Concat
 concat_join = record {
   join = λ a b. Phrase.Concat a b;
-  spells = λ a b xs ys sa sb.
-      record { first = xs; second = ys; first_spelled = sa; second_spelled = sb; joined = refl };
+  spells = λ a b xs ys sa sb. search rules;
   items_are = λ a b. refl;
 }
 
 alternate_join : Join Head.Alternate Item.Alternate
 alternate_join = record {
   join = λ a b. Phrase.Alternate a b;
-  spells = λ a b xs ys sa sb.
-      record { first = xs; second = ys; first_spelled = sa; second_spelled = sb; joined = refl };
+  spells = λ a b xs ys sa sb. search rules;
   items_are = λ a b. refl;
 }
 
@@ -289,51 +260,20 @@ record IsRepeat (missing : ℕ) (words : List (List ℕ)) (items : List Item) : 
   items_are : items ≡ Item.Repeat least most greedy ∷ more
   body : AreSpelled missing rest more
 
-repeat_parts
-    : {missing : ℕ} {words : List (List ℕ)} {items : List Item} → IsLeast missing words items
+repeat_parts : {missing : ℕ} {words : List (List ℕ)} {items : List Item} → IsLeast missing words items
     → IsRepeat missing words items
-repeat_parts l =
-    let m = l.most in
-    let g = m.greed in
-    let greedy = g.operand in
-    record {
-      least = l.least;
-      most = m.most;
-      greedy = greedy.0;
-      low = l.word;
-      high = m.word;
-      rest = g.rest;
-      more = g.more;
-      least_spelled = l.spelled;
-      most_spelled = m.spelled;
-      words_are =
-          l.words_are ∙ ap (λ (ws : List (List ℕ)). l.word ∷ ws) m.words_are
-          ∙ ap (λ (ws : List (List ℕ)). l.word ∷ (m.word ∷ ws)) g.words_are
-          ∙ ap (λ (w : List ℕ). l.word ∷ (m.word ∷ (w ∷ g.rest))) greedy.1;
-      items_are = g.items_are ∙ ap (λ (x : Item). x ∷ g.more) greedy.2;
-      body = g.others;
-    }
+repeat_parts l = grind (arith, common_steps)
 
-repeat_first
-    : {missing : ℕ} {words : List (List ℕ)} {items : List Item} → 0 < missing → IsRepeat missing words items
+repeat_first : {missing : ℕ} {words : List (List ℕ)} {items : List Item} → 0 < missing → IsRepeat missing words items
     → AreSpelled missing (head_name Head.Repeat ∷ words) items
 repeat_first {missing = missing} {words = words} {items = items} some r =
     let s = r.body in on s.phrases s.count s.spelled s.items_are where
-      on
-          : (ps : List Phrase) → length ps ≡ missing → SpellsPhrases ps r.rest → r.more ≡ all_items ps
+      on : (ps : List Phrase) → length ps ≡ missing → SpellsPhrases ps r.rest → r.more ≡ all_items ps
           → AreSpelled missing (head_name Head.Repeat ∷ words) items
       on [] c p q = absurd (omega arith)
       on (body ∷ ps) c (xs, ys, spelled, others, e) q =
           let front = λ (l : List (List ℕ)). head_name Head.Repeat ∷ (r.low ∷ (r.high ∷ (greed_name r.greedy ∷ l))) in
-          let phrase : SpellsPhrase (Phrase.Repeat r.least r.most r.greedy body) (front xs) = record {
-            low = r.low;
-            high = r.high;
-            body = xs;
-            least_spelled = r.least_spelled;
-            most_spelled = r.most_spelled;
-            body_spelled = spelled;
-            joined = refl;
-          } in
+          let phrase : SpellsPhrase (Phrase.Repeat r.least r.most r.greedy body) (front xs) = search rules in
           let words_are = ap (λ (ws : List (List ℕ)). head_name Head.Repeat ∷ ws) r.words_are ∙ ap front e in
           record {
             phrases = Phrase.Repeat r.least r.most r.greedy body ∷ ps;
@@ -342,8 +282,7 @@ repeat_first {missing = missing} {words = words} {items = items} some r =
             items_are = r.items_are ∙ ap (λ (l : List Item). Item.Repeat r.least r.most r.greedy ∷ l) q;
           }
 
-head_first
-    : (n : ℕ) {missing : ℕ} {words : List (List ℕ)} {items : List Item} (head : Head) → 0 < missing
+head_first : (n : ℕ) {missing : ℕ} {words : List (List ℕ)} {items : List Item} (head : Head) → 0 < missing
     → Stepped (by_head n missing (Some head)) words items → AreSpelled missing (head_name head ∷ words) items
 head_first n {missing = missing} Head.Empty some s =
     let g = gave s Awaited.Head (missing - 1) (Some (Item.Leaf Expression.Empty)) s.took in
@@ -365,8 +304,7 @@ head_first n {missing = missing} {words = words} Head.Repeat some s =
     let g = gave s Awaited.Least missing None s.took in
     repeat_first some (repeat_parts (subst (IsLeast missing words) (sym g.items_are) g.after))
 
-head_step
-    : (n : ℕ) {missing : ℕ} {words : List (List ℕ)} {items : List Item} (word : List ℕ)
+head_step : (n : ℕ) {missing : ℕ} {words : List (List ℕ)} {items : List Item} (word : List ℕ)
     → Stepped (take_word n Awaited.Head missing word) words items → AreSpelled missing (word ∷ words) items
 unfolding take_word take_head
 head_step n {missing = missing} {words = words} {items = items} word s = elim (cases_Bool (eqb missing 0)) [
@@ -376,8 +314,7 @@ head_step n {missing = missing} {words = words} {items = items} word s = elim (c
   clash : refused n BadKind.Expr ≡ Ok s.t → ⊥
   clash z = cc
 
-  on
-      : (o : Option Head) → 0 < missing → head_of word ≡ o → by_head n missing o ≡ Ok s.t
+  on : (o : Option Head) → 0 < missing → head_of word ≡ o → by_head n missing o ≡ Ok s.t
       → AreSpelled missing (word ∷ words) items
   on None some p q = absurd (clash q)
   on (Some head) some p q =
@@ -388,23 +325,19 @@ head_step n {missing = missing} {words = words} {items = items} word s = elim (c
 
 -- ---- all words
 
-nothing_left
-    : (n missing : ℕ) (awaited : Awaited) (items : List Item) → items_at n awaited missing [] ≡ Ok items
+nothing_left : (n missing : ℕ) (awaited : Awaited) (items : List Item) → items_at n awaited missing [] ≡ Ok items
     → IsAwaited awaited missing [] items
 unfolding items_at
 nothing_left n missing Awaited.Head items e = elim (cases_Bool (eqb missing 0)) [
   | inl h ↦
       let none : [] ≡ items = ok_is [] items (rw h at e) in
       record { phrases = []; count = sym (eqb-true missing 0 h); spelled = refl; items_are = sym none }
-  | inr h ↦ absurd (clash (rw h at e))
-] where
-  clash : refused n BadKind.Expr ≡ Ok items → ⊥
-  clash z = cc
+  | inr h ↦ absurd (let z = rw h at e in cc)
+]
 nothing_left n missing Awaited.Bytes items e = absurd cc
 nothing_left n missing _ items e = absurd cc
 
-word_step
-    : (n missing : ℕ) {words : List (List ℕ)} {items : List Item} (awaited : Awaited) (word : List ℕ)
+word_step : (n missing : ℕ) {words : List (List ℕ)} {items : List Item} (awaited : Awaited) (word : List ℕ)
     → Stepped (take_word n awaited missing word) words items → IsAwaited awaited missing (word ∷ words) items
 unfolding take_word
 word_step n missing Awaited.Head word s = head_step n word s
@@ -423,8 +356,7 @@ word_step n missing (Awaited.Greed least most) word s =
     let item = λ (greedy : Bool). Item.Repeat least most greedy in
     value_step n word (greed_of word) item (λ greedy is. (greedy, greed_spelled word greedy is, refl)) s
 
-items_spelled
-    : (n missing : ℕ) (awaited : Awaited) (words : List (List ℕ)) (items : List Item)
+items_spelled : (n missing : ℕ) (awaited : Awaited) (words : List (List ℕ)) (items : List Item)
     → items_at n awaited missing words ≡ Ok items → IsAwaited awaited missing words items
 unfolding items_at
 items_spelled n missing awaited [] items e = nothing_left n missing awaited items e
@@ -444,38 +376,29 @@ items_spelled n missing awaited (word ∷ words) items e =
 
 -- ---- what was made was accepted
 
-deep_enough
-    : (n : ℕ) (e : Expression) (parts out : List Expression) → shallow n e parts ≡ Ok out
+deep_enough : (n : ℕ) (e : Expression) (parts out : List Expression) → shallow n e parts ≡ Ok out
     → IsShallow e × (out ≡ e ∷ parts)
 deep_enough n e parts out h = elim (cases_Bool (ltb max_depth (depth e))) [
-  | inl p ↦ absurd (clash (rw p at h))
+  | inl p ↦ absurd (let z = rw p at h in cc)
   | inr p ↦ (ltb-false max_depth (depth e) p, sym (ok_is (e ∷ parts) out (rw p at h)))
-] where
-  clash : refused n BadKind.TooDeep ≡ Ok out → ⊥
-  clash z = cc
+]
 
 -- a repetition that was finished
-repeat_finished
-    : (n least : ℕ) (most : Option ℕ) (greedy : Bool) (body : Expression) (parts out : List Expression)
+repeat_finished : (n least : ℕ) (most : Option ℕ) (greedy : Bool) (body : Expression) (parts out : List Expression)
     → finished n (Item.Repeat least most greedy) (body ∷ parts) ≡ Ok out
     → IsBounded least most body × (shallow n (Expression.Repeat least most greedy body) parts ≡ Ok out)
 repeat_finished n least None greedy body parts out h = elim (cases_Bool (eqb (min_len body) 0)) [
-  | inl p ↦ absurd (clash (rw p at h))
+  | inl p ↦ absurd (let z = rw p at h in cc)
   | inr p ↦ (pos_of_ne-zero (eqb-false (min_len body) 0 p), rw p at h)
-] where
-  clash : refused n BadKind.EmptyBody ≡ Ok out → ⊥
-  clash z = cc
+]
 repeat_finished n least (Some most) greedy body parts out h = elim (cases_Bool (ltb most least)) [
-  | inl p ↦ absurd (clash (rw p at h))
+  | inl p ↦ absurd (let z = rw p at h in cc)
   | inr p ↦ (ltb-false most least p, rw p at h)
-] where
-  clash : refused n BadKind.BadRange ≡ Ok out → ⊥
-  clash z = cc
+]
 
 -- Whatever the items of a phrase are made into, it is the phrase's meaning, and the phrase is accepted.
 record Accepts (n : ℕ) (p : Phrase) : Type 0 where
-  accepted
-      : (parts out : List Expression) → made_onto n (items_of p) parts ≡ Ok out
+  accepted : (parts out : List Expression) → made_onto n (items_of p) parts ≡ Ok out
       → IsAccepted p × (out ≡ meaning p ∷ parts)
 
 -- how two parts are finished
@@ -484,8 +407,7 @@ record Finish (n : ℕ) (item : Item) : Type 0 where
   finished
       : (a b : Expression) (parts : List Expression) → finished n item (a ∷ (b ∷ parts)) ≡ shallow n (form a b) parts
 
-two_accepted
-    : {n : ℕ} {item : Item} {a b : Phrase} (f : Finish n item) → Accepts n a → Accepts n b
+two_accepted : {n : ℕ} {item : Item} {a b : Phrase} (f : Finish n item) → Accepts n a → Accepts n b
     → (parts out : List Expression) → made_onto n (item ∷ (items_of a ++ items_of b)) parts ≡ Ok out
     → let e = f.form (meaning a) (meaning b) in (IsAccepted a × IsAccepted b × IsShallow e) × (out ≡ e ∷ parts)
 unfolding made_onto
@@ -502,14 +424,12 @@ two_accepted {n = n} {item = item} {a = a} {b = b} f accepts_a accepts_b parts o
     let d = deep_enough n e parts out made in
     ((first.0, second.0, d.0), d.1)
 
-leaf_accepted
-    : (n : ℕ) (e : Expression) (parts out : List Expression) → made_onto n (Item.Leaf e ∷ []) parts ≡ Ok out
+leaf_accepted : (n : ℕ) (e : Expression) (parts out : List Expression) → made_onto n (Item.Leaf e ∷ []) parts ≡ Ok out
     → out ≡ e ∷ parts
 unfolding made_onto
 leaf_accepted n e parts out h = sym (ok_is (e ∷ parts) out h)
 
-repeat_accepted
-    : {n : ℕ} {body : Phrase} (least : ℕ) (most : Option ℕ) (greedy : Bool) → Accepts n body
+repeat_accepted : {n : ℕ} {body : Phrase} (least : ℕ) (most : Option ℕ) (greedy : Bool) → Accepts n body
     → Accepts n (Phrase.Repeat least most greedy body)
 unfolding made_onto
 repeat_accepted {n = n} {body = body} least most greedy accepts = record {
@@ -523,14 +443,10 @@ repeat_accepted {n = n} {body = body} least most greedy accepts = record {
 }
 
 phrase_accepted : (n : ℕ) (p : Phrase) → Accepts n p
-phrase_accepted n Phrase.Empty =
-    record { accepted = λ parts out h. (tt, leaf_accepted n Expression.Empty parts out h) }
-phrase_accepted n (Phrase.Literal bytes) =
-    record { accepted = λ parts out h. (tt, leaf_accepted n (literal_of bytes) parts out h) }
-phrase_accepted n (Phrase.Class set) =
-    record { accepted = λ parts out h. (tt, leaf_accepted n (Expression.Class set) parts out h) }
-phrase_accepted n (Phrase.Look look) =
-    record { accepted = λ parts out h. (tt, leaf_accepted n (Expression.Look look) parts out h) }
+phrase_accepted n Phrase.Empty = record { accepted = λ parts out h. (tt, leaf_accepted n _ parts out h) }
+phrase_accepted n (Phrase.Literal bytes) = grind (arith, common_steps, leaf_accepted)
+phrase_accepted n (Phrase.Class set) = grind (arith, common_steps, leaf_accepted)
+phrase_accepted n (Phrase.Look look) = grind (arith, common_steps, leaf_accepted)
 phrase_accepted n (Phrase.Concat a b) =
     let f : Finish n Item.Concat = record { form = λ x y. Expression.Concat x y; finished = λ x y parts. refl } in
     record { accepted = two_accepted f (phrase_accepted n a) (phrase_accepted n b) }
@@ -548,8 +464,7 @@ expression_spelled n words e h =
     let b = bind_ok (made_onto n a.0 []) (λ parts. single_of n parts) e a.2 in
     let s = items_spelled n 1 Awaited.Head words a.0 a.1 in
     on s.phrases s.count s.spelled (sym (ap (λ (l : List Item). made_onto n l []) s.items_are) ∙ b.1) b.2 where
-      on
-          : {parts : List Expression} (ps : List Phrase) → length ps ≡ 1 → SpellsPhrases ps words
+      on : {parts : List Expression} (ps : List Phrase) → length ps ≡ 1 → SpellsPhrases ps words
           → made_onto n (all_items ps) [] ≡ Ok parts → single_of n parts ≡ Ok e → SpellsExpression e words
       on [] c s m z = absurd (omega arith)
       on (p ∷ (q ∷ ps)) c s m z = absurd (omega arith)

@@ -20,8 +20,7 @@ pub in_front-nil : (read : Items) → in_front [] read ≡ read
 in_front-nil (Ok items) = refl
 in_front-nil (Err e) = refl
 
-in_front_more
-    : (front : List Item) (item : Option Item) (read : Items)
+in_front_more : (front : List Item) (item : Option Item) (read : Items)
     → in_front front (with_item item read) ≡ in_front (front ++ option_to_list item) read
 in_front_more front item (Ok items) =
     ap (λ (xs : List Item). Ok xs) (sym (append_assoc front (option_to_list item) items))
@@ -31,11 +30,6 @@ in_front_more front item (Err e) = refl
 pub record ReadItems
     (n : ℕ) (awaited : Awaited) (missing : ℕ) (words : List (List ℕ)) (front : List Item) (whole : Items) : Type 0 where
   pub same : in_front front (items_at n awaited missing words) ≡ whole
-
-pub items_begun
-    : (n : ℕ) (awaited : Awaited) (missing : ℕ) (words : List (List ℕ))
-    → ReadItems n awaited missing words [] (items_at n awaited missing words)
-items_begun n awaited missing words = record { same = in_front-nil (items_at n awaited missing words) }
 
 -- what a word gives, and what is read after it
 abbrev after : ℕ → List (List ℕ) → Taken → Items
@@ -54,8 +48,7 @@ items_turn {n = n} {missing = missing} {awaited = awaited} {words = words} {t = 
       ∙ ap (λ (ws : List (List ℕ)). in_front front (items_at n awaited missing ws)) (sym e) ∙ so_far.same;
 }
 
-pub items_fail
-    : {n missing : ℕ} {awaited : Awaited} {left words : List (List ℕ)} {word : List ℕ} {front : List Item}
+pub items_fail : {n missing : ℕ} {awaited : Awaited} {left words : List (List ℕ)} {word : List ℕ} {front : List Item}
     → {whole : Items} (fault : ScriptFault) → ReadItems n awaited missing left front whole → left ≡ word ∷ words
     → Fails fault (take_word n awaited missing word) → Fails fault whole
 unfolding items_at
@@ -74,8 +67,7 @@ unfolding items_at
 items_end {n = n} {missing = missing} {awaited = awaited} {front = front} complete so_far e f =
     sym so_far.same ∙ ap (λ (ws : List (List ℕ)). in_front front (items_at n awaited missing ws)) e
     ∙ ap (λ (b : Bool). in_front front (cond b (Ok []) (refused n BadKind.Expr))) f ∙ on complete where
-      on
-          : (b : Bool)
+      on : (b : Bool)
           → in_front front (cond b (Ok []) (refused n BadKind.Expr)) ≡ cond b (Ok front) (refused n BadKind.Expr)
       on true = ap (λ (xs : List Item). Ok xs) (append-nil front)
       on false = refl

@@ -8,8 +8,7 @@ use Rattle.rx_script.specs.Items.{finished, made_onto}
 abbrev pub Parts : Type 0
 Parts = Result (List Expression) Fault
 
-bind_assoc
-    : {A B C : Type 0} (r : Result A Fault) (f : A → Result B Fault) (g : B → Result C Fault)
+bind_assoc : {A B C : Type 0} (r : Result A Fault) (f : A → Result B Fault) (g : B → Result C Fault)
     → ((r >>= f) >>= g) ≡ (r >>= λ x. f x >>= g)
 bind_assoc (Ok x) f g = refl
 bind_assoc (Err e) f g = refl
@@ -19,8 +18,7 @@ bind_done (Ok x) = refl
 bind_done (Err e) = refl
 
 -- items one after the other: those at the end are made first
-pub made_onto-append
-    : (n : ℕ) (xs ys : List Item) (parts : List Expression)
+pub made_onto-append : (n : ℕ) (xs ys : List Item) (parts : List Expression)
     → made_onto n (xs ++ ys) parts ≡ (made_onto n ys parts >>= λ done. made_onto n xs done)
 unfolding made_onto
 made_onto-append n [] ys parts = sym (bind_done (made_onto n ys parts))
@@ -32,8 +30,7 @@ made_onto-append n (x ∷ xs) ys parts =
 pub record MakesParts (n : ℕ) (items : List Item) (parts : List Expression) (whole : Parts) : Type 0 where
   pub same : made_onto n items parts ≡ whole
 
-last_made
-    : {n : ℕ} {items : List Item} {parts : List Expression} {whole : Parts} (rest : List Item) (item : Item)
+last_made : {n : ℕ} {items : List Item} {parts : List Expression} {whole : Parts} (rest : List Item) (item : Item)
     → MakesParts n items parts whole → items ≡ rest ++ item ∷ []
     → (finished n item parts >>= λ done. made_onto n rest done) ≡ whole
 unfolding made_onto
@@ -48,17 +45,14 @@ pub parts_turn
 parts_turn {n = n} rest item so_far e f =
     record { same = ap (λ (r : Parts). r >>= λ done. made_onto n rest done) (sym f) ∙ last_made rest item so_far e }
 
-pub parts_fail
-    : {n : ℕ} {items : List Item} {parts : List Expression} {whole : Parts}
-    → (rest : List Item) (item : Item) (fault : ScriptFault)
-    → MakesParts n items parts whole → items ≡ rest ++ item ∷ [] → Fails fault (finished n item parts)
-    → Fails fault whole
+pub parts_fail : {n : ℕ} {items : List Item} {parts : List Expression} {whole : Parts}
+    → (rest : List Item) (item : Item) (fault : ScriptFault) → MakesParts n items parts whole
+    → items ≡ rest ++ item ∷ [] → Fails fault (finished n item parts) → Fails fault whole
 parts_fail rest item ScriptFault.Memory so_far e f = tt
 parts_fail {n = n} rest item (ScriptFault.Bad line kind) so_far e f =
     sym (last_made rest item so_far e) ∙ ap (λ (r : Parts). r >>= λ done. made_onto n rest done) f
 
-pub parts_end
-    : {n : ℕ} {items : List Item} {parts : List Expression} {whole : Parts}
-    → MakesParts n items parts whole → items ≡ [] → whole ≡ Ok parts
+pub parts_end : {n : ℕ} {items : List Item} {parts : List Expression} {whole : Parts} → MakesParts n items parts whole
+    → items ≡ [] → whole ≡ Ok parts
 unfolding made_onto
 parts_end {n = n} {parts = parts} so_far e = sym so_far.same ∙ ap (λ (xs : List Item). made_onto n xs parts) e

@@ -30,8 +30,7 @@ no_name : (cs : List ℕ) → anchored_of (112 ∷ cs) ≡ None
 unfolding anchored_of
 no_name cs = refl
 
-pub mode_read
-    : (word : List ℕ) (mode : Anchored) → SpellsMode mode word
+pub mode_read : (word : List ℕ) (mode : Anchored) → SpellsMode mode word
     → (read : Mode) × (mode_word word ≡ Some read) × (mode_of read ≡ mode)
 unfolding mode_word
 mode_read word Anchored.No s = (Mode.No, ap mode_word s ∙ rw (anchored_read false) refl, refl)

@@ -26,8 +26,7 @@ chosen_some : {A : Type 0} (b : Bool) (r : Option A) (x : A) → cond b r None �
 chosen_some true r x e = (refl, e)
 chosen_some false r x e = absurd cc
 
-from_digits
-    : (n : ℕ) (cs : List ℕ) (v : ℕ) → n < number_limit → number_from n cs ≡ Some v
+from_digits : (n : ℕ) (cs : List ℕ) (v : ℕ) → n < number_limit → number_from n cs ≡ Some v
     → (are_digits cs ≡ true) × (value_onto n cs ≡ v) × (v < number_limit)
 from_digits n [] v lt e = (refl, same_Some n v e, subst (λ (x : ℕ). x < number_limit) (same_Some n v e) lt)
 from_digits n (c ∷ cs) v lt e =
@@ -40,8 +39,7 @@ grows : (n : ℕ) (cs : List ℕ) → n ≤ value_onto n cs
 grows n [] = omega arith
 grows n (c ∷ cs) = let g = grows (with_digit n c) cs in omega arith
 
-to_digits
-    : (n : ℕ) (cs : List ℕ) → are_digits cs ≡ true → value_onto n cs < number_limit
+to_digits : (n : ℕ) (cs : List ℕ) → are_digits cs ≡ true → value_onto n cs < number_limit
     → number_from n cs ≡ Some (value_onto n cs)
 to_digits n [] d lt = refl
 to_digits n (c ∷ cs) d lt =
@@ -50,8 +48,7 @@ to_digits n (c ∷ cs) d lt =
     let small : with_digit n c < number_limit = omega arith in
     rw (b.0, lt-ltb _ _ small) (to_digits (with_digit n c) cs b.1 lt)
 
-spelled_by
-    : (ds : List ℕ) (v : ℕ) → are_digits ds ≡ true → 0 < length ds → (get_or ds 0 0 ≡ 48 → length ds ≡ 1)
+spelled_by : (ds : List ℕ) (v : ℕ) → are_digits ds ≡ true → 0 < length ds → (get_or ds 0 0 ≡ 48 → length ds ≡ 1)
     → value_onto 0 ds ≡ v → v < number_limit → SpellsNumber v ds
 spelled_by ds v d some lead e lt =
     (lt, sym (ap decimal (sym e) ∙ decimal-digits_value own ds d some lead (omega arith)))
@@ -70,8 +67,7 @@ number_spelled (c ∷ (d ∷ ds)) v e = two (eqb c 48) refl e where
       spelled_by (c ∷ (d ∷ ds)) v f.0 (omega arith) (λ lead. absurd (eqb-false c 48 z lead)) f.1 f.2
 
 -- the first digit of a longer number isn't 0
-by_cases
-    : (word : List ℕ) → are_digits word ≡ true → 0 < length word → (1 < length word → get_or word 0 0 ≢ 48)
+by_cases : (word : List ℕ) → are_digits word ≡ true → 0 < length word → (1 < length word → get_or word 0 0 ≢ 48)
     → number_of word ≡ number_from 0 word
 by_cases [] d some lead = absurd (omega arith)
 by_cases (c ∷ []) d some lead = refl

@@ -9,8 +9,7 @@ abbrev pub with_front : List ℕ → Option (List ℕ) → Option (List ℕ)
 with_front front None = None
 with_front front (Some bytes) = Some (front ++ bytes)
 
-with_front_more
-    : (front : List ℕ) (b : ℕ) (read : Option (List ℕ))
+with_front_more : (front : List ℕ) (b : ℕ) (read : Option (List ℕ))
     → with_front (front ++ b ∷ []) read ≡ with_front front (with_byte (Some b) read)
 with_front_more front b None = refl
 with_front_more front b (Some bytes) = ap (λ (bs : List ℕ). Some bs) (append_assoc front (b ∷ []) bytes)
@@ -19,8 +18,7 @@ with_front_more front b (Some bytes) = ap (λ (bs : List ℕ). Some bs) (append_
 pub record ReadPairs (word bytes : List ℕ) (at : ℕ) : Type 0 where
   pub same : with_front bytes (pairs_of (drop at word)) ≡ pairs_of word
 
-two_more
-    : (word : List ℕ) (at : ℕ) → at + 1 < length word
+two_more : (word : List ℕ) (at : ℕ) → at + 1 < length word
     → drop at word ≡ get_or word at 0 ∷ (get_or word (at + 1) 0 ∷ drop (at + 2) word)
 two_more word at lt =
     let e1 = drop-cons word at 0 (omega arith) in
@@ -30,8 +28,7 @@ two_more word at lt =
     e1 ∙ ap (λ (xs : List ℕ). get_or word at 0 ∷ xs) e2 ∙ rw (s, t) refl
 
 -- a turn that reads a pair
-pub pairs_turn
-    : {word bytes : List ℕ} {at : ℕ} (b : ℕ) → ReadPairs word bytes at → at + 1 < length word
+pub pairs_turn : {word bytes : List ℕ} {at : ℕ} (b : ℕ) → ReadPairs word bytes at → at + 1 < length word
     → Some b ≡ byte_of (get_or word at 0) (get_or word (at + 1) 0) → ReadPairs word (bytes ++ b ∷ []) (at + 2)
 pairs_turn {word = word} {bytes = bytes} {at = at} b so_far lt e =
     let rest = pairs_of (drop (at + 2) word) in
@@ -41,16 +38,7 @@ pairs_turn {word = word} {bytes = bytes} {at = at} b so_far lt e =
           ∙ ap (λ (xs : List ℕ). with_front bytes (pairs_of xs)) (sym (two_more word at lt)) ∙ so_far.same;
     }
 
--- a turn that meets no pair
-pub pairs_stop
-    : {word bytes : List ℕ} {at : ℕ} → ReadPairs word bytes at → at + 1 < length word
-    → None ≡ byte_of (get_or word at 0) (get_or word (at + 1) 0) → None ≡ pairs_of word
-pairs_stop {word = word} {bytes = bytes} {at = at} so_far lt e =
-    ap (λ (o : Option ℕ). with_front bytes (with_byte o (pairs_of (drop (at + 2) word)))) e
-    ∙ ap (λ (xs : List ℕ). with_front bytes (pairs_of xs)) (sym (two_more word at lt)) ∙ so_far.same
-
-pub pairs_odd
-    : {word bytes : List ℕ} {at : ℕ} → ReadPairs word bytes at → at < length word → length word ≤ at + 1
+pub pairs_odd : {word bytes : List ℕ} {at : ℕ} → ReadPairs word bytes at → at < length word → length word ≤ at + 1
     → None ≡ pairs_of word
 pairs_odd {word = word} {bytes = bytes} {at = at} so_far lt le =
     let e : drop at word ≡ get_or word at 0 ∷ drop (suc at) word = drop-cons word at 0 lt in

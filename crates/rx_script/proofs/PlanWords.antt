@@ -1,9 +1,9 @@
 -- The words of a plan line: what is read is spelled so, and what is spelled so is read.
-use Rattle.rx_spec.proofs.Prelude.{common_steps, ◌≡◌, ◌≢◌, ℕ, zero, suc, ◌<◌, Bool, true, false, not, eqb, ltb, List}
-use Rattle.rx_spec.proofs.Prelude.{[], ◌∷◌, ◌++◌, length, get_or, set, Option, Some, None, refl, sym, ap, subst, ◌∙◌}
-use Rattle.rx_spec.proofs.Prelude.{append-nil, arith, inl, inr, option_map, option_and_then, AllByRecursion, list_all}
-use Rattle.rx_spec.proofs.Prelude.{cases_Bool, eqb-true, ltb-true, not-true, and_parts, same_Some, none-some}
-use Rattle.rx_spec.proofs.Prelude.{get_or-set_same, get_or-set_other}
+use Rattle.rx_spec.proofs.Prelude.{common_steps, ◌≡◌, ◌≢◌, ℕ, ◌<◌, Bool, true, false, not, eqb, ltb, List, [], ◌∷◌}
+use Rattle.rx_spec.proofs.Prelude.{◌++◌, length, get_or, set, Option, Some, None, refl, sym, ap, subst, ◌∙◌, append-nil}
+use Rattle.rx_spec.proofs.Prelude.{arith, inl, inr, option_map, option_and_then, AllByRecursion, list_all, cases_Bool}
+use Rattle.rx_spec.proofs.Prelude.{eqb-true, ltb-true, not-true, and_parts, same_Some, none-some, get_or-set_same}
+use Rattle.rx_spec.proofs.Prelude.{get_or-set_other}
 use Rattle.std.proofs.lemmas.Bool.{both_ways}
 use Rattle.std.proofs.lemmas.List.{length-set}
 use Rattle.rx_script.specs.declared.names.PlanName.{PlanName}
@@ -11,7 +11,6 @@ use Rattle.rx_script.specs.declared.plan_words.PlanWord.{PlanWord}
 use Rattle.rx_script.specs.declared.plan_words.Choices.{Choices}
 use Rattle.rx_script.specs.Pieces.{cut}
 use Rattle.rx_script.specs.Names.{plan_name, all_plan_names, plan_name_of, start_of}
-use Rattle.rx_script.specs.Tokens.{number_of, one_byte, set_of_word}
 use Rattle.rx_script.specs.Plans.{unplanned, name_of, chosen_by, with_word, bare_word, valued_word, with_value}
 use Rattle.rx_script.specs.Plans.{plan_word, number_of_name, place_of, unless_seen, plan_from, none_seen, plan_of}
 use Rattle.rx_script.specs.Grammar.{SpellsValue, SpellsWord, SpellsWords, AreDistinct, with_words, SpellsPlan}
@@ -41,51 +40,30 @@ cut_joined c (b ∷ bs) = elim (cases_Bool (eqb b c)) [
 abbrev IsNamed : PlanName → List ℕ → PlanWord → Type 0
 IsNamed name after word = (name_of word ≡ name) × SpellsValue word after
 
-bare : {name : PlanName} {made word : PlanWord} → IsNamed name [] made → Some made ≡ Some word → IsNamed name [] word
-bare {name = name} {made = made} {word = word} is e = subst (IsNamed name []) (same_Some made word e) is
-
 bare_spelled : (name : PlanName) (word : PlanWord) → bare_word name ≡ Some word → IsNamed name [] word
-bare_spelled PlanName.Patterns word e = bare {made = PlanWord.Patterns} (refl, refl) e
-bare_spelled PlanName.NoClasses word e = bare {made = PlanWord.NoClasses} (refl, refl) e
-bare_spelled PlanName.UnicodeWord word e = bare {made = PlanWord.UnicodeWord} (refl, refl) e
-bare_spelled PlanName.Minimize word e = bare {made = PlanWord.Minimize} (refl, refl) e
-bare_spelled PlanName.NoAccelerate word e = bare {made = PlanWord.NoAccelerate} (refl, refl) e
-bare_spelled PlanName.Mark word e = bare {made = PlanWord.Mark} (refl, refl) e
-bare_spelled PlanName.Sparse word e = bare {made = PlanWord.Sparse} (refl, refl) e
-bare_spelled PlanName.Bytes word e = bare {made = PlanWord.Bytes} (refl, refl) e
-bare_spelled PlanName.Pair word e = bare {made = PlanWord.Pair} (refl, refl) e
-bare_spelled PlanName.Rows word e = bare {made = PlanWord.Rows} (refl, refl) e
-bare_spelled _ word e = absurd cc
+bare_spelled name word e = grind (arith, common_steps)
 
 -- a value that was read, and the word of it
-valued
-    : {A : Type 0} (name : PlanName) (value : List ℕ) (o : Option A) (make : A → PlanWord) (word : PlanWord)
+valued : {A : Type 0} (name : PlanName) (value : List ℕ) (o : Option A) (make : A → PlanWord) (word : PlanWord)
     → ((x : A) → o ≡ Some x → IsNamed name (61 ∷ value) (make x)) → option_map make o ≡ Some word
     → IsNamed name (61 ∷ value) word
 valued name value None make word is e = absurd cc
 valued name value (Some x) make word is e = subst (IsNamed name (61 ∷ value)) (same_Some (make x) word e) (is x refl)
 
-valued_spelled
-    : (name : PlanName) (value : List ℕ) (word : PlanWord) → valued_word name value ≡ Some word
+valued_spelled : (name : PlanName) (value : List ℕ) (word : PlanWord) → valued_word name value ≡ Some word
     → IsNamed name (61 ∷ value) word
 valued_spelled PlanName.Start value word e =
-    valued PlanName.Start value (start_of value) (λ kind. PlanWord.Start kind) word
-    (λ kind is. (refl, (value, start_spelled value kind is, refl))) e
+    valued _ value _ _ word (λ kind is. (refl, (value, start_spelled value kind is, refl))) e
 valued_spelled PlanName.Quit value word e =
-    valued PlanName.Quit value (set_of_word value) (λ bytes. PlanWord.Quit bytes) word
-    (λ bytes is. (refl, (value, set_spelled value bytes is, refl))) e
+    valued _ value _ _ word (λ bytes is. (refl, (value, set_spelled value bytes is, refl))) e
 valued_spelled PlanName.LineTerminator value word e =
-    valued PlanName.LineTerminator value (one_byte value) (λ byte. PlanWord.LineTerminator byte) word
-    (λ byte is. (refl, (value, byte_spelled value byte is, refl))) e
+    valued _ value _ _ word (λ byte is. (refl, (value, byte_spelled value byte is, refl))) e
 valued_spelled PlanName.NfaLimit value word e =
-    valued PlanName.NfaLimit value (number_of value) (λ bytes. PlanWord.NfaLimit bytes) word
-    (λ bytes is. (refl, (value, number_spelled value bytes is, refl))) e
+    valued _ value _ _ word (λ bytes is. (refl, (value, number_spelled value bytes is, refl))) e
 valued_spelled PlanName.DfaLimit value word e =
-    valued PlanName.DfaLimit value (number_of value) (λ bytes. PlanWord.DfaLimit bytes) word
-    (λ bytes is. (refl, (value, number_spelled value bytes is, refl))) e
+    valued _ value _ _ word (λ bytes is. (refl, (value, number_spelled value bytes is, refl))) e
 valued_spelled PlanName.DeterminizeLimit value word e =
-    valued PlanName.DeterminizeLimit value (number_of value) (λ bytes. PlanWord.DeterminizeLimit bytes) word
-    (λ bytes is. (refl, (value, number_spelled value bytes is, refl))) e
+    valued _ value _ _ word (λ bytes is. (refl, (value, number_spelled value bytes is, refl))) e
 valued_spelled _ value word e = absurd cc
 
 -- a name, and what stands after it
@@ -93,8 +71,7 @@ abbrev tail_of : Option (List ℕ) → List ℕ
 tail_of None = []
 tail_of (Some value) = 61 ∷ value
 
-tail_spelled
-    : (name : PlanName) (value : Option (List ℕ)) (word : PlanWord) → with_value value name ≡ Some word
+tail_spelled : (name : PlanName) (value : Option (List ℕ)) (word : PlanWord) → with_value value name ≡ Some word
     → IsNamed name (tail_of value) word
 tail_spelled name None word e = bare_spelled name word e
 tail_spelled name (Some value) word e = valued_spelled name value word e
@@ -106,8 +83,7 @@ joined_tail before (Some value) = refl
 word_spelled : (text : List ℕ) (word : PlanWord) → plan_word text ≡ Some word → SpellsWord word text
 unfolding plan_word
 word_spelled text word e = on (plan_name_of (cut 61 text).0) refl e where
-  on
-      : (o : Option PlanName) → plan_name_of (cut 61 text).0 ≡ o
+  on : (o : Option PlanName) → plan_name_of (cut 61 text).0 ≡ o
       → option_and_then (with_value (cut 61 text).1) o ≡ Some word → SpellsWord word text
   on None p z = absurd cc
   on (Some name) p z =
@@ -120,14 +96,6 @@ word_spelled text word e = on (plan_name_of (cut 61 text).0) refl e where
 -- ---- and the other way
 
 -- a test that each name passes
-each_at
-    : (test : PlanName → Bool) (names : List PlanName) (k : ℕ) (d : PlanName) → list_all test names ≡ true
-    → test d ≡ true → test (get_or names k d) ≡ true
-each_at test [] k d all last = last
-each_at test (name ∷ names) zero d all last = (and_parts (test name) (list_all test names) all).0
-each_at test (name ∷ names) (suc k) d all last =
-    each_at test names k d (and_parts (test name) (list_all test names) all).1 last
-
 of_each : (test : PlanName → Bool) → list_all test all_plan_names ≡ true → (name : PlanName) → test name ≡ true
 of_each test all name = grind (arith, common_steps)
 
@@ -145,59 +113,41 @@ bare_read : (name : PlanName) → plan_word (plan_name name) ≡ bare_word name
 unfolding plan_word
 bare_read name = grind (arith, common_steps, plan_name_read)
 
-valued_read
-    : (name : PlanName) (value : List ℕ) → plan_word (plan_name name ++ 61 ∷ value) ≡ valued_word name value
+valued_read : (name : PlanName) (value : List ℕ) → plan_word (plan_name name ++ 61 ∷ value) ≡ valued_word name value
 unfolding plan_word
 valued_read name value =
     let plain = of_each (λ n. is_plain (plan_name n)) refl name in
     rw (cut-valued (plan_name name) value plain, plan_name_read name) refl
 
-nothing_after
-    : (name : PlanName) (word : PlanWord) (after : List ℕ) → after ≡ [] → bare_word name ≡ Some word
+nothing_after : (name : PlanName) (word : PlanWord) (after : List ℕ) → after ≡ [] → bare_word name ≡ Some word
     → plan_word (plan_name name ++ after) ≡ Some word
 nothing_after name word after none e =
     ap (λ (x : List ℕ). plan_word (plan_name name ++ x)) none ∙ ap plan_word (append-nil (plan_name name))
     ∙ bare_read name ∙ e
 
-value_after
-    : {A : Type 0} (name : PlanName) (after value : List ℕ) (o : Option A) (make : A → PlanWord) (x : A)
+value_after : {A : Type 0} (name : PlanName) (after value : List ℕ) (o : Option A) (make : A → PlanWord) (x : A)
     → (after ≡ 61 ∷ value) × (valued_word name value ≡ option_map make o) → o ≡ Some x
     → plan_word (plan_name name ++ after) ≡ Some (make x)
 value_after name after value o make x e is =
     ap (λ (rest : List ℕ). plan_word (plan_name name ++ rest)) e.0 ∙ valued_read name value ∙ e.1
     ∙ ap (option_map make) is
 
-tail_read
-    : (word : PlanWord) (after : List ℕ) → SpellsValue word after
+tail_read : (word : PlanWord) (after : List ℕ) → SpellsValue word after
     → plan_word (plan_name (name_of word) ++ after) ≡ Some word
 tail_read (PlanWord.Start kind) after v =
-    value_after PlanName.Start after v.0 (start_of v.0) (λ kind. PlanWord.Start kind) kind (v.2, refl)
-    (ap start_of v.1 ∙ start_read kind)
+    value_after PlanName.Start after v.0 _ PlanWord.Start kind (v.2, refl) (ap start_of v.1 ∙ start_read kind)
 tail_read (PlanWord.Quit bytes) after v =
-    value_after PlanName.Quit after v.0 (set_of_word v.0) (λ bytes. PlanWord.Quit bytes) bytes (v.2, refl)
-    (set_read v.0 bytes v.1)
+    value_after PlanName.Quit after v.0 _ PlanWord.Quit bytes (v.2, refl) (set_read v.0 bytes v.1)
 tail_read (PlanWord.LineTerminator byte) after v =
-    value_after PlanName.LineTerminator after v.0 (one_byte v.0) (λ byte. PlanWord.LineTerminator byte) byte (v.2, refl)
-    (byte_read v.0 byte v.1)
+    value_after PlanName.LineTerminator after v.0 _ PlanWord.LineTerminator byte (v.2, refl) (byte_read v.0 byte v.1)
 tail_read (PlanWord.NfaLimit bytes) after v =
-    value_after PlanName.NfaLimit after v.0 (number_of v.0) (λ bytes. PlanWord.NfaLimit bytes) bytes (v.2, refl)
-    (number_read v.0 bytes v.1)
+    value_after PlanName.NfaLimit after v.0 _ PlanWord.NfaLimit bytes (v.2, refl) (number_read v.0 bytes v.1)
 tail_read (PlanWord.DfaLimit bytes) after v =
-    value_after PlanName.DfaLimit after v.0 (number_of v.0) (λ bytes. PlanWord.DfaLimit bytes) bytes (v.2, refl)
-    (number_read v.0 bytes v.1)
+    value_after PlanName.DfaLimit after v.0 _ PlanWord.DfaLimit bytes (v.2, refl) (number_read v.0 bytes v.1)
 tail_read (PlanWord.DeterminizeLimit bytes) after v =
-    value_after PlanName.DeterminizeLimit after v.0 (number_of v.0) (λ bytes. PlanWord.DeterminizeLimit bytes) bytes
-    (v.2, refl) (number_read v.0 bytes v.1)
-tail_read PlanWord.Patterns after v = nothing_after PlanName.Patterns PlanWord.Patterns after v refl
-tail_read PlanWord.NoClasses after v = nothing_after PlanName.NoClasses PlanWord.NoClasses after v refl
-tail_read PlanWord.UnicodeWord after v = nothing_after PlanName.UnicodeWord PlanWord.UnicodeWord after v refl
-tail_read PlanWord.Minimize after v = nothing_after PlanName.Minimize PlanWord.Minimize after v refl
-tail_read PlanWord.NoAccelerate after v = nothing_after PlanName.NoAccelerate PlanWord.NoAccelerate after v refl
-tail_read PlanWord.Mark after v = nothing_after PlanName.Mark PlanWord.Mark after v refl
-tail_read PlanWord.Sparse after v = nothing_after PlanName.Sparse PlanWord.Sparse after v refl
-tail_read PlanWord.Bytes after v = nothing_after PlanName.Bytes PlanWord.Bytes after v refl
-tail_read PlanWord.Pair after v = nothing_after PlanName.Pair PlanWord.Pair after v refl
-tail_read PlanWord.Rows after v = nothing_after PlanName.Rows PlanWord.Rows after v refl
+    value_after PlanName.DeterminizeLimit after v.0 _ PlanWord.DeterminizeLimit bytes (v.2, refl)
+    (number_read v.0 bytes v.1)
+tail_read word after v = nothing_after (name_of word) word after v refl
 
 word_read : (text : List ℕ) (word : PlanWord) → SpellsWord word text → plan_word text ≡ Some word
 word_read text word s = ap plan_word s.2 ∙ tail_read word s.0 s.1
@@ -224,8 +174,7 @@ all_unseen [] = tt
 all_unseen (word ∷ words) = (none_is_seen (chosen_by word), all_unseen words)
 
 -- what is unseen after a word is unseen before it, and chooses another thing
-seen_less
-    : (seen : List Bool) (word other : PlanWord) → length seen ≡ 16 → IsUnseen (with_seen seen word) other
+seen_less : (seen : List Bool) (word other : PlanWord) → length seen ≡ 16 → IsUnseen (with_seen seen word) other
     → (chosen_by other ≢ chosen_by word) × IsUnseen seen other
 seen_less seen word other len e =
     let place : place_of word < length seen = omega (arith, place_small (chosen_by word)) in
@@ -236,8 +185,7 @@ seen_less seen word other len e =
     let unseen = sym (get_or-set_other seen (place_of word) (place_of other) true false differ) ∙ e in
     (λ same. differ (ap number_of_name same), unseen)
 
-all_less
-    : (seen : List Bool) (word : PlanWord) (words : List PlanWord) → length seen ≡ 16
+all_less : (seen : List Bool) (word : PlanWord) (words : List PlanWord) → length seen ≡ 16
     → AllByRecursion (IsUnseen (with_seen seen word)) words
     → AllByRecursion (λ other. chosen_by other ≢ chosen_by word) words × AllByRecursion (IsUnseen seen) words
 all_less seen word [] len each = (tt, tt)
@@ -246,8 +194,7 @@ all_less seen word (other ∷ others) len each =
     let more = all_less seen word others len each.1 in
     ((one.0, more.0), (one.1, more.1))
 
-all_more
-    : (seen : List Bool) (word : PlanWord) (words : List PlanWord)
+all_more : (seen : List Bool) (word : PlanWord) (words : List PlanWord)
     → AllByRecursion (λ other. chosen_by other ≢ chosen_by word) words → AllByRecursion (IsUnseen seen) words
     → AllByRecursion (IsUnseen (with_seen seen word)) words
 all_more seen word [] differ unseen = tt
@@ -275,12 +222,10 @@ first_word choices seen texts word =
 
 -- whatever is read of the words after a word was spelled by them
 record MoreWords (choices : Choices) (seen : List Bool) (texts : List (List ℕ)) (out : Choices) : Type 0 where
-  are
-      : (word : PlanWord) → after_word choices seen texts word ≡ Some out
+  are : (word : PlanWord) → after_word choices seen texts word ≡ Some out
       → IsRead (with_word word choices) (with_seen seen word) texts out
 
-word_in_front
-    : {choices out : Choices} {seen : List Bool} {texts : List (List ℕ)} (text : List ℕ) (word : PlanWord)
+word_in_front : {choices out : Choices} {seen : List Bool} {texts : List (List ℕ)} (text : List ℕ) (word : PlanWord)
     → length seen ≡ 16 → plan_word text ≡ Some word → IsUnseen seen word
     → IsRead (with_word word choices) (with_seen seen word) texts out → IsRead choices seen (text ∷ texts) out
 word_in_front {seen = seen} text word len w unseen r =
@@ -293,15 +238,12 @@ word_in_front {seen = seen} text word len w unseen r =
       made = r.made;
     }
 
-word_spelled_first
-    : {choices out : Choices} {seen : List Bool} {texts : List (List ℕ)} (text : List ℕ) → length seen ≡ 16
-    → MoreWords choices seen texts out → plan_from choices seen (text ∷ texts) ≡ Some out
+word_spelled_first : {choices out : Choices} {seen : List Bool} {texts : List (List ℕ)} (text : List ℕ)
+    → length seen ≡ 16 → MoreWords choices seen texts out → plan_from choices seen (text ∷ texts) ≡ Some out
     → IsRead choices seen (text ∷ texts) out
 word_spelled_first {choices = choices} {out = out} {seen = seen} {texts = texts} text len more e =
     on (plan_word text) refl e where
-      on
-          : (o : Option PlanWord) → plan_word text ≡ o
-          → option_and_then (first_word choices seen texts) o ≡ Some out
+      on : (o : Option PlanWord) → plan_word text ≡ o → option_and_then (first_word choices seen texts) o ≡ Some out
           → IsRead choices seen (text ∷ texts) out
       on None w q = absurd cc
       on (Some word) w q = elim (cases_Bool (get_or seen (place_of word) false)) [
@@ -309,8 +251,7 @@ word_spelled_first {choices = choices} {out = out} {seen = seen} {texts = texts}
         | inr p ↦ word_in_front text word len w p (more.are word (rw p at q))
       ]
 
-from_spelled
-    : (choices : Choices) (seen : List Bool) (texts : List (List ℕ)) (out : Choices) → length seen ≡ 16
+from_spelled : (choices : Choices) (seen : List Bool) (texts : List (List ℕ)) (out : Choices) → length seen ≡ 16
     → plan_from choices seen texts ≡ Some out → IsRead choices seen texts out
 from_spelled choices seen [] out len e =
     record { words = []; spelled = tt; unseen = tt; distinct = tt; made = sym (same_Some choices out e) }
@@ -322,9 +263,8 @@ from_spelled choices seen (text ∷ texts) out len e =
     } in
     word_spelled_first text len more e
 
-from_read
-    : (choices : Choices) (seen : List Bool) (words : List PlanWord) (texts : List (List ℕ)) → SpellsWords words texts
-    → AllByRecursion (IsUnseen seen) words → AreDistinct words
+from_read : (choices : Choices) (seen : List Bool) (words : List PlanWord) (texts : List (List ℕ))
+    → SpellsWords words texts → AllByRecursion (IsUnseen seen) words → AreDistinct words
     → plan_from choices seen texts ≡ Some (with_words words choices)
 from_read choices seen [] [] s u d = refl
 from_read choices seen [] (text ∷ texts) s u d = absurd s

@@ -9,8 +9,7 @@ where_is : (i f k : ℕ) → f ≤ k → (i < f) ⊎ ((f ≤ i) × (i < k)) ⊎ 
 where_is i f k le = grind arith
 
 -- one bit of a range, and of the range with a byte more
-one_bit
-    : (f k i : ℕ) → f ≤ k → max (bit_at (2 ^ k - 2 ^ f) i) (bit_at (2 ^ k) i) ≡ bit_at (2 ^ (k + 1) - 2 ^ f) i
+one_bit : (f k i : ℕ) → f ≤ k → max (bit_at (2 ^ k - 2 ^ f) i) (bit_at (2 ^ k) i) ≡ bit_at (2 ^ (k + 1) - 2 ^ f) i
 one_bit f k i le = elim (where_is i f k le) [
   | inl below ↦
       rw (bit_at_mask_below f k i below, bit_at-pow_other k i (omega arith), bit_at_mask_below f (k + 1) i below) refl
@@ -29,8 +28,7 @@ one_bit f k i le = elim (where_is i f k le) [
       rw (bit_at_mask_above f k i (omega arith), bit_at-pow_other k i (omega arith)) (sym whole)
 ]
 
-pub range_more
-    : (set f k : ℕ) → f ≤ k → bit_or (bit_or set (2 ^ k - 2 ^ f)) (2 ^ k) ≡ bit_or set (2 ^ (k + 1) - 2 ^ f)
+pub range_more : (set f k : ℕ) → f ≤ k → bit_or (bit_or set (2 ^ k - 2 ^ f)) (2 ^ k) ≡ bit_or set (2 ^ (k + 1) - 2 ^ f)
 range_more set f k le = same_from_bits _ _ (λ i.
     let mask = bit_at (2 ^ k - 2 ^ f) i in
     let one = bit_at (2 ^ k) i in

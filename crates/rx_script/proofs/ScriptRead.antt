@@ -22,8 +22,7 @@ use Rattle.rx_script.proofs.SpelledLines.{line_spaced, line_words, spelled_lines
 use Rattle.rx_script.proofs.ExpressionRead.{expression_read}
 
 -- a line with this first word
-headed_read
-    : (n : ℕ) (kind : LineKind) (words others : List (List ℕ)) → IsLine words → words ≡ line_name kind ∷ others
+headed_read : (n : ℕ) (kind : LineKind) (words others : List (List ℕ)) → IsLine words → words ≡ line_name kind ∷ others
     → line_at n (line_text words) ≡ Ok (Some kind, others)
 headed_read n kind words others w e =
     rw (line_spaced words true w.1 w.0, line_words words w.1 w.0)
@@ -41,29 +40,24 @@ record IsSpanOf (asked : Asked) (q : Query) : Type 0 where
 same_query : {asked : Asked} {q : Query} → IsSpanOf asked q → q.earliest ≡ false → query_of asked q.haystack ≡ q
 same_query {asked = asked} {q = q} s whole = grind (arith, common_steps)
 
-span_fits
-    : {asked : Asked} {q : Query} → IsSpanOf asked q → q.end ≤ length q.haystack → q.start ≤ q.end + 1
+span_fits : {asked : Asked} {q : Query} → IsSpanOf asked q → q.end ≤ length q.haystack → q.start ≤ q.end + 1
     → fits asked q.haystack ≡ true
 span_fits {asked = asked} {q = q} s within ordered =
     rw (s.start, s.end) (and_from _ _ (le-leb q.end (length q.haystack) within) (le-leb q.start (q.end + 1) ordered))
 
-numbers_read
-    : (asked : Asked) (a b m : List ℕ) → number_of a ≡ Some asked.start → number_of b ≡ Some asked.end
+numbers_read : (asked : Asked) (a b m : List ℕ) → number_of a ≡ Some asked.start → number_of b ≡ Some asked.end
     → mode_word m ≡ Some asked.mode → input_words (a ∷ (b ∷ (m ∷ []))) ≡ Some asked
 numbers_read asked a b m p q r = rw (p, q, r) refl
 
-asked_again
-    : {q : Query} {input hay : List (List ℕ)} (n : ℕ) (asked : Asked) → SpellsQuery q input hay
-    → fits asked q.haystack ≡ true
-    → IsLine hay → hay_at n asked (line_text hay ∷ []) ≡ Ok (query_of asked q.haystack)
+asked_again : {q : Query} {input hay : List (List ℕ)} (n : ℕ) (asked : Asked) → SpellsQuery q input hay
+    → fits asked q.haystack ≡ true → IsLine hay → hay_at n asked (line_text hay ∷ []) ≡ Ok (query_of asked q.haystack)
 unfolding hay_at asked_at
 asked_again {q = q} {hay = hay} n asked s fit line =
     let first = headed_read n LineKind.Hay hay (s.bytes ∷ []) line s.hay_words in
     let bytes = bytes_read s.bytes q.haystack s.hay_spelled in
     rw (first, bytes, fit) refl
 
-query_read
-    : {q : Query} {input hay : List (List ℕ)} (n : ℕ) → IsLine input → IsLine hay → SpellsQuery q input hay
+query_read : {q : Query} {input hay : List (List ℕ)} (n : ℕ) → IsLine input → IsLine hay → SpellsQuery q input hay
     → lines_at true n (line_text input ∷ (line_text hay ∷ [])) ≡ Ok ([], Some q)
 unfolding lines_at next_at input_at
 query_read {q = q} {input = input} {hay = hay} n input_line hay_line s =
@@ -81,8 +75,7 @@ end_read : (n : ℕ) → lines_at false n [] ≡ Ok ([], None)
 unfolding lines_at next_at
 end_read n = refl
 
-asked_read
-    : (w : Bool) (n : ℕ) (lines : List (List (List ℕ))) (asked : Option Query) → AllByRecursion IsLine lines
+asked_read : (w : Bool) (n : ℕ) (lines : List (List (List ℕ))) (asked : Option Query) → AllByRecursion IsLine lines
     → SpellsAsked w asked lines → lines_at w n (map line_text lines) ≡ Ok ([], asked)
 asked_read true n (input ∷ (hay ∷ [])) (Some q) each s = query_read n each.0 each.1.0 s
 asked_read true n [] (Some q) each s = absurd s
@@ -101,16 +94,14 @@ record SpellLines (w : Bool) (exprs asked_lines : List (List (List ℕ))) (read 
   exprs_spelled : SpellsExprs read.0 exprs
   asked_spelled : SpellsAsked w read.1 asked_lines
 
-expr_again
-    : (w : Bool) (n : ℕ) (words : List (List ℕ)) (lines : List (List ℕ)) (e : Expression) → IsLine words
+expr_again : (w : Bool) (n : ℕ) (words : List (List ℕ)) (lines : List (List ℕ)) (e : Expression) → IsLine words
     → Headed LineKind.Expr (SpellsExpression e) words
     → lines_at w n (line_text words ∷ lines) ≡ with_expr e (lines_at w (n + 1) lines)
 unfolding lines_at next_at
 expr_again w n words lines e line (others, s, is) =
     rw (headed_read n LineKind.Expr words others line is, expression_read n others e s) refl
 
-lines_read
-    : (w : Bool) (n : ℕ) (expr_lines asked_lines : List (List (List ℕ))) (read : Lines)
+lines_read : (w : Bool) (n : ℕ) (expr_lines asked_lines : List (List (List ℕ))) (read : Lines)
     → SpellLines w expr_lines asked_lines read → lines_at w n (map line_text (expr_lines ++ asked_lines)) ≡ Ok read
 lines_read w n [] asked_lines ([], asked) s = asked_read w n asked_lines asked s.each s.asked_spelled
 lines_read w n [] asked_lines (e ∷ es, asked) s = absurd s.exprs_spelled
@@ -124,8 +115,7 @@ lines_read w n (words ∷ lines) asked_lines (e ∷ es, asked) s =
 -- ---- the plan line
 
 -- a first line that is no plan line
-no_plan_asked
-    : (w : Bool) (lines : List (List (List ℕ))) (asked : Option Query) → AllByRecursion IsLine lines
+no_plan_asked : (w : Bool) (lines : List (List (List ℕ))) (asked : Option Query) → AllByRecursion IsLine lines
     → SpellsAsked w asked lines → plan_at (map line_text lines) ≡ Ok None
 unfolding plan_at
 no_plan_asked true (input ∷ (hay ∷ [])) (Some q) each s =
@@ -138,10 +128,8 @@ no_plan_asked false [] None each s = refl
 no_plan_asked false (a ∷ ls) None each s = absurd s
 no_plan_asked false lines (Some q) each s = absurd s
 
-no_plan
-    : (w : Bool) (expr_lines asked_lines : List (List (List ℕ))) (read : Lines)
-    → SpellLines w expr_lines asked_lines read
-    → plan_at (map line_text (expr_lines ++ asked_lines)) ≡ Ok None
+no_plan : (w : Bool) (expr_lines asked_lines : List (List (List ℕ))) (read : Lines)
+    → SpellLines w expr_lines asked_lines read → plan_at (map line_text (expr_lines ++ asked_lines)) ≡ Ok None
 unfolding plan_at
 no_plan w [] asked_lines read s = no_plan_asked w asked_lines read.1 s.each s.asked_spelled
 no_plan w (words ∷ lines) asked_lines ([], asked) s = absurd s.exprs_spelled
@@ -149,8 +137,7 @@ no_plan w (words ∷ lines) asked_lines (e ∷ es, asked) s =
     let first = s.exprs_spelled.0 in
     rw (headed_read 1 LineKind.Expr words first.0 s.each.0 first.2) refl
 
-plan_again
-    : (words : List (List ℕ)) (lines : List (List ℕ)) (choices : Choices) → IsLine words
+plan_again : (words : List (List ℕ)) (lines : List (List ℕ)) (choices : Choices) → IsLine words
     → Headed LineKind.Plan (SpellsPlan choices) words → plan_at (line_text words ∷ lines) ≡ Ok (Some (choices, lines))
 unfolding plan_at
 plan_again words lines choices line (others, s, is) =
@@ -170,9 +157,7 @@ script_read w text s sp =
     let all = sp.plan_lines ++ (sp.expr_lines ++ sp.asked_lines) in
     ap (plan_first w) (spelled_lines all text sp.lines)
     ∙ on sp.plan_lines sp.lines.each sp.plan where
-      on
-          : (plan_lines : List (List (List ℕ)))
-          → AllByRecursion IsLine (plan_lines ++ (sp.expr_lines ++ sp.asked_lines))
+      on : (plan_lines : List (List (List ℕ))) → AllByRecursion IsLine (plan_lines ++ (sp.expr_lines ++ sp.asked_lines))
           → SpellsPlanLines (record { plan = s.plan; rows = s.rows }) plan_lines
           → plan_first w (map line_text (plan_lines ++ (sp.expr_lines ++ sp.asked_lines))) ≡ Ok s
       on [] each plan =

@@ -40,8 +40,7 @@ record IsTested (line : List ℕ) (kind : Option LineKind) (others : List (List 
   text : line ≡ line_text (first ∷ others)
   named : line_kind first ≡ kind
 
-tested
-    : (n : ℕ) (line : List ℕ) (kind : Option LineKind) (others : List (List ℕ)) → line_at n line ≡ Ok (kind, others)
+tested : (n : ℕ) (line : List ℕ) (kind : Option LineKind) (others : List (List ℕ)) → line_at n line ≡ Ok (kind, others)
     → IsTested line kind others
 tested n line kind others e =
     let read : Option LineKind × List (List ℕ) = (kind_of (words_of line), others_of (words_of line)) in
@@ -50,19 +49,12 @@ tested n line kind others e =
     let same = ok_is read (kind, others) p.1 in
     on (words_of line) s.0 s.1 (ap (λ (x : Option LineKind × List (List ℕ)). x.0) same)
     (ap (λ (x : Option LineKind × List (List ℕ)). x.1) same) where
-      on
-          : (words : List (List ℕ)) → IsLine words → line ≡ line_text words → kind_of words ≡ kind
+      on : (words : List (List ℕ)) → IsLine words → line ≡ line_text words → kind_of words ≡ kind
           → others_of words ≡ others → IsTested line kind others
       on [] w t k o = absurd (omega arith)
-      on (first ∷ more) w t k o = record {
-        first = first;
-        words = subst (λ (x : List (List ℕ)). IsLine (first ∷ x)) o w;
-        text = t ∙ ap (λ (x : List (List ℕ)). line_text (first ∷ x)) o;
-        named = k;
-      }
+      on (first ∷ more) w t k o = grind (arith, common_steps)
 
-headed
-    : {line : List ℕ} {kind : LineKind} {others : List (List ℕ)} (P : List (List ℕ) → Type 0)
+headed : {line : List ℕ} {kind : LineKind} {others : List (List ℕ)} (P : List (List ℕ) → Type 0)
     → (t : IsTested line (Some kind) others) → P others → Headed kind P (t.first ∷ others)
 headed {kind = kind} {others = others} P t p =
     (others, p, ap (λ (f : List ℕ). f ∷ others) (line_spelled t.first kind t.named))
@@ -85,8 +77,7 @@ record SpellsSpan (asked : Asked) (words : List (List ℕ)) : Type 0 where
 
 span_spelled : (words : List (List ℕ)) (asked : Asked) → input_words words ≡ Some asked → SpellsSpan asked words
 span_spelled (a ∷ (b ∷ (m ∷ []))) asked e = on (number_of a) (number_of b) (mode_word m) refl refl refl e where
-  on
-      : (x y : Option ℕ) (z : Option Mode) → number_of a ≡ x → number_of b ≡ y → mode_word m ≡ z
+  on : (x y : Option ℕ) (z : Option Mode) → number_of a ≡ x → number_of b ≡ y → mode_word m ≡ z
       → asked_of x y z ≡ Some asked → SpellsSpan asked (a ∷ (b ∷ (m ∷ [])))
   on None y z p q r s = absurd cc
   on (Some x) None z p q r s = absurd cc
@@ -105,8 +96,7 @@ span_spelled (a ∷ (b ∷ (m ∷ []))) asked e = on (number_of a) (number_of b)
       })
 span_spelled _ asked e = absurd cc
 
-hay_spelled
-    : (words : List (List ℕ)) (hay : List ℕ) → hay_words words ≡ Some hay
+hay_spelled : (words : List (List ℕ)) (hay : List ℕ) → hay_words words ≡ Some hay
     → (word : List ℕ) × (words ≡ word ∷ []) × SpellsBytes hay word
 hay_spelled (word ∷ []) hay e = (word, refl, bytes_spelled word hay e)
 hay_spelled [] hay e = absurd cc
@@ -133,23 +123,9 @@ asked_spelled {asked = asked} {inputs = inputs} {others = others} {line = line} 
     let p = passed (fits asked hay) (ending hay) n BadKind.Span q x.2 in
     let r = bind_ok (nothing_at (n + 1) lines) (λ nothing. Ok (query_of asked hay)) q p.1 in
     let f = and_parts (leb asked.end (length hay)) (leb asked.start (asked.end + 1)) p.0 in
-    let made : SpellsQuery (query_of asked hay) (line_name LineKind.Input ∷ inputs) (t.first ∷ others) = record {
-      start = span.start;
-      end = span.end;
-      mode = span.mode;
-      bytes = w.0;
-      input_words = ap (λ (l : List (List ℕ)). line_name LineKind.Input ∷ l) span.words_are;
-      hay_words =
-          ap (λ (f : List ℕ). f ∷ others) (line_spelled t.first LineKind.Hay t.named)
-          ∙ ap (λ (l : List (List ℕ)). line_name LineKind.Hay ∷ l) w.1;
-      start_spelled = span.start_spelled;
-      end_spelled = span.end_spelled;
-      mode_spelled = span.mode_spelled;
-      hay_spelled = w.2;
-      within = leb-true _ _ f.0;
-      ordered = leb-true _ _ f.1;
-      whole = refl;
-    } in
+    let hay_name = line_spelled t.first LineKind.Hay t.named in
+    let made : SpellsQuery (query_of asked hay) (line_name LineKind.Input ∷ inputs) (t.first ∷ others) =
+    grind (arith, common_steps, leb-true) in
     record {
       hay = t.first ∷ others;
       hay_line = t.words;
@@ -160,16 +136,14 @@ asked_spelled {asked = asked} {inputs = inputs} {others = others} {line = line} 
           (ok_is (query_of asked hay) q r.2) made;
     }
 
-hay_kind_spelled
-    : {asked : Asked} {inputs others : List (List ℕ)} {line : List ℕ} (n : ℕ) (kind : Option LineKind)
+hay_kind_spelled : {asked : Asked} {inputs others : List (List ℕ)} {line : List ℕ} (n : ℕ) (kind : Option LineKind)
     → (lines : List (List ℕ)) (q : Query) → SpellsSpan asked inputs → IsTested line kind others
     → hay_kind n asked kind others lines ≡ Ok q → IsAsked inputs (line ∷ lines) q
 hay_kind_spelled n (Some LineKind.Hay) lines q span t h = asked_spelled n lines q span t h
 hay_kind_spelled n _ lines q span t h = absurd cc
 
-hay_at_spelled
-    : {asked : Asked} {inputs : List (List ℕ)} (n : ℕ) (lines : List (List ℕ)) (q : Query) → SpellsSpan asked inputs
-    → hay_at n asked lines ≡ Ok q → IsAsked inputs lines q
+hay_at_spelled : {asked : Asked} {inputs : List (List ℕ)} (n : ℕ) (lines : List (List ℕ)) (q : Query)
+    → SpellsSpan asked inputs → hay_at n asked lines ≡ Ok q → IsAsked inputs lines q
 unfolding hay_at
 hay_at_spelled n [] q span h = absurd cc
 hay_at_spelled {asked = asked} n (line ∷ lines) q span h =
@@ -193,23 +167,19 @@ record AreLines (w : Bool) (lines : List (List ℕ)) (read : Lines) : Type 0 whe
   exprs_spelled : SpellsExprs read.0 expr_lines
   asked_spelled : SpellsAsked w read.1 asked_lines
 
-expr_in_front
-    : {w : Bool} {line : List ℕ} {lines others : List (List ℕ)} {e : Expression} {read : Lines}
+expr_in_front : {w : Bool} {line : List ℕ} {lines others : List (List ℕ)} {e : Expression} {read : Lines}
     → IsTested line (Some LineKind.Expr) others → SpellsExpression e others → AreLines w lines read
     → AreLines w (line ∷ lines) (e ∷ read.0, read.1)
 expr_in_front {line = line} {lines = lines} {others = others} {e = e} t s more = record {
   expr_lines = (t.first ∷ others) ∷ more.expr_lines;
   asked_lines = more.asked_lines;
   each = (t.words, more.each);
-  lines_are =
-      ap (λ (l : List ℕ). l ∷ lines) t.text
-      ∙ ap (λ (ls : List (List ℕ)). line_text (t.first ∷ others) ∷ ls) more.lines_are;
+  lines_are = grind (arith, common_steps);
   exprs_spelled = (headed (SpellsExpression e) t s, more.exprs_spelled);
   asked_spelled = more.asked_spelled;
 }
 
-asked_alone
-    : {line : List ℕ} {lines others : List (List ℕ)} {q : Query} → IsTested line (Some LineKind.Input) others
+asked_alone : {line : List ℕ} {lines others : List (List ℕ)} {q : Query} → IsTested line (Some LineKind.Input) others
     → IsAsked others lines q → AreLines true (line ∷ lines) ([], Some q)
 asked_alone {line = line} {lines = lines} {others = others} {q = q} t a = record {
   expr_lines = [];
@@ -247,8 +217,7 @@ next_spelled w n _ tail next t h = absurd cc
 record MoreLines (w : Bool) (lines : List (List ℕ)) (more : Read) : Type 0 where
   are : (read : Lines) → more ≡ Ok read → AreLines w lines read
 
-lines_step
-    : {w : Bool} {lines : List (List ℕ)} {more : Read} (n : ℕ) (line : List ℕ) (next : Next) (read : Lines)
+lines_step : {w : Bool} {lines : List (List ℕ)} {more : Read} (n : ℕ) (line : List ℕ) (next : Next) (read : Lines)
     → MoreLines w lines more → IsNext w line lines next → read_after n more next ≡ Ok read
     → AreLines w (line ∷ lines) read
 lines_step {w = w} {lines = lines} {more = more} n line (Next.Expr e after) read again (others, t, s) h =
@@ -262,8 +231,7 @@ lines_step {w = w} {lines = lines} n line (Next.Input words after) read again (w
     (subst (AreLines true (line ∷ lines)) (ok_is (alone m.0) read m.2) (asked_alone t a))
 lines_step n line Next.End read again is h = absurd is
 
-no_lines
-    : (w : Bool) (n : ℕ) (next : Next) (read : Lines) → ended w n ≡ Ok next
+no_lines : (w : Bool) (n : ℕ) (next : Next) (read : Lines) → ended w n ≡ Ok next
     → read_after n (Ok ([], None)) next ≡ Ok read → AreLines w [] read
 no_lines true n next read e h = absurd cc
 no_lines false n next read e h =
@@ -295,15 +263,13 @@ record HasPlan (text : List ℕ) (choices : Choices) (rest : List (List ℕ)) : 
   each : AllByRecursion IsLine plan_lines
   spelled : SpellsPlanLines choices plan_lines
 
-joined_text
-    : (text : List ℕ) (lines : List (List (List ℕ))) → IsJoined text (map line_text lines)
+joined_text : (text : List ℕ) (lines : List (List (List ℕ))) → IsJoined text (map line_text lines)
     → (text ≡ lines_text lines) ⊎ ((0 < length lines) × (text ≡ lines_text lines ++ 10 ∷ []))
 joined_text text lines (inl p) = inl p
 joined_text text lines (inr p) = inr (omega (arith, length-map {A = List (List ℕ)} {B = List ℕ}), p.1)
 
-whole_spelled
-    : {w : Bool} {text : List ℕ} {choices : Choices} {rest : List (List ℕ)} {read : Lines} → HasPlan text choices rest
-    → AreLines w rest read
+whole_spelled : {w : Bool} {text : List ℕ} {choices : Choices} {rest : List (List ℕ)} {read : Lines}
+    → HasPlan text choices rest → AreLines w rest read
     → Spells w text (record { plan = choices.plan; rows = choices.rows; exprs = read.0; asked = read.1 })
 whole_spelled {text = text} p lines =
     let others = lines.expr_lines ++ lines.asked_lines in
@@ -331,11 +297,9 @@ abbrev HasPlanOf : List ℕ → Option (Choices × List (List ℕ)) → Type 0
 HasPlanOf text None = HasPlan text unplanned (lines_of text)
 HasPlanOf text (Some plan) = HasPlan text plan.0 plan.1
 
-plan_kind_spelled
-    : {line : List ℕ} {lines others : List (List ℕ)} (text : List ℕ) (kind : Option LineKind)
-    → (plan : Option (Choices × List (List ℕ)))
-    → lines_of text ≡ line ∷ lines → IsTested line kind others → plan_kind kind others lines ≡ Ok plan
-    → HasPlanOf text plan
+plan_kind_spelled : {line : List ℕ} {lines others : List (List ℕ)} (text : List ℕ) (kind : Option LineKind)
+    → (plan : Option (Choices × List (List ℕ))) → lines_of text ≡ line ∷ lines → IsTested line kind others
+    → plan_kind kind others lines ≡ Ok plan → HasPlanOf text plan
 plan_kind_spelled {lines = lines} {others = others} text (Some LineKind.Plan) plan e t h =
     let c = needed_then 1 BadKind.Plan (plan_of others) (λ choices. Ok (Some (choices, lines))) plan h in
     subst (HasPlanOf text) (ok_is (Some (c.0, lines)) plan c.2)
@@ -347,8 +311,7 @@ plan_kind_spelled {lines = lines} {others = others} text (Some LineKind.Plan) pl
     })
 plan_kind_spelled text _ plan e t h = subst (HasPlanOf text) (ok_is None plan h) (no_plan text)
 
-plan_at_spelled
-    : (text : List ℕ) (plan : Option (Choices × List (List ℕ))) → plan_at (lines_of text) ≡ Ok plan
+plan_at_spelled : (text : List ℕ) (plan : Option (Choices × List (List ℕ))) → plan_at (lines_of text) ≡ Ok plan
     → HasPlanOf text plan
 unfolding plan_at
 plan_at_spelled text plan h = on (lines_of text) refl h where
@@ -361,10 +324,8 @@ plan_at_spelled text plan h = on (lines_of text) refl h where
 abbrev whole : Choices → Lines → Spelled
 whole choices read = record { plan = choices.plan; rows = choices.rows; exprs = read.0; asked = read.1 }
 
-rest_spelled
-    : {text : List ℕ} {choices : Choices} {rest : List (List ℕ)} (w : Bool) (n : ℕ) (s : Spelled)
-    → HasPlan text choices rest
-    → spelled choices (lines_at w n rest) ≡ Ok s → Spells w text s
+rest_spelled : {text : List ℕ} {choices : Choices} {rest : List (List ℕ)} (w : Bool) (n : ℕ) (s : Spelled)
+    → HasPlan text choices rest → spelled choices (lines_at w n rest) ≡ Ok s → Spells w text s
 rest_spelled {text = text} {choices = choices} {rest = rest} w n s p h =
     let made = λ (read : Lines). whole choices read in
     let x = bind_ok (lines_at w n rest) (λ read. Ok (made read)) s h in
@@ -375,8 +336,7 @@ unfolding script_of
 script_spelled w text s h =
     let b = bind_ok (plan_at (lines_of text)) (planned w (lines_of text)) s h in
     on b.0 (plan_at_spelled text b.0 b.1) b.2 where
-      on
-          : (plan : Option (Choices × List (List ℕ))) → HasPlanOf text plan → planned w (lines_of text) plan ≡ Ok s
+      on : (plan : Option (Choices × List (List ℕ))) → HasPlanOf text plan → planned w (lines_of text) plan ≡ Ok s
           → Spells w text s
       on None p z = rest_spelled w 1 s p z
       on (Some plan) p z = rest_spelled w 2 s p z

@@ -21,12 +21,10 @@ byte_word h l b e = record { high = h; low = l; digits = pair_spelled h l b e; w
 one_spelled : (h l : ℕ) (r : ℕ × ℕ) → single (byte_of h l) ≡ Some r → SpellsRange r (h ∷ (l ∷ []))
 one_spelled h l r e = grind (arith, common_steps, byte_word)
 
-two_spelled
-    : (h l h' l' : ℕ) (r : ℕ × ℕ) → ordered (byte_of h l) (byte_of h' l') ≡ Some r
+two_spelled : (h l h' l' : ℕ) (r : ℕ × ℕ) → ordered (byte_of h l) (byte_of h' l') ≡ Some r
     → SpellsRange r (h ∷ (l ∷ (45 ∷ (h' ∷ (l' ∷ [])))))
 two_spelled h l h' l' r e = on (byte_of h l) (byte_of h' l') refl refl e where
-  on
-      : (o o' : Option ℕ) → byte_of h l ≡ o → byte_of h' l' ≡ o' → ordered o o' ≡ Some r
+  on : (o o' : Option ℕ) → byte_of h l ≡ o → byte_of h' l' ≡ o' → ordered o o' ≡ Some r
       → SpellsRange r (h ∷ (l ∷ (45 ∷ (h' ∷ (l' ∷ [])))))
   on None o' p q z = absurd cc
   on (Some a) None p q z = absurd cc
@@ -80,8 +78,7 @@ ranges_spelled
     : (set : ℕ) (pieces : List (List ℕ)) (union : ℕ) → ranges_from set pieces ≡ Some union → AreRanges set pieces union
 ranges_spelled set [] union e = ([], tt, sym (same_Some set union e))
 ranges_spelled set (piece ∷ pieces) union e = on (range_of piece) refl (λ s z. ranges_spelled s pieces union z) e where
-  on
-      : (o : Option (ℕ × ℕ)) → range_of piece ≡ o
+  on : (o : Option (ℕ × ℕ)) → range_of piece ≡ o
       → ((s : ℕ) → ranges_from s pieces ≡ Some union → AreRanges s pieces union)
       → option_and_then (λ r. ranges_from (bit_or set (between r.0 r.1)) pieces) o ≡ Some union
       → AreRanges set (piece ∷ pieces) union
@@ -90,8 +87,7 @@ ranges_spelled set (piece ∷ pieces) union e = on (range_of piece) refl (λ s z
       let a = again (with_range set r) z in
       (r ∷ a.0, (range_spelled piece r p, a.1), a.2)
 
-ranges_read
-    : (set : ℕ) (ranges : List (ℕ × ℕ)) (pieces : List (List ℕ)) → SpellsRanges ranges pieces
+ranges_read : (set : ℕ) (ranges : List (ℕ × ℕ)) (pieces : List (List ℕ)) → SpellsRanges ranges pieces
     → ranges_from set pieces ≡ Some (union_onto set ranges)
 ranges_read set [] [] s = refl
 ranges_read set [] (piece ∷ pieces) s = absurd s
@@ -133,8 +129,7 @@ no_comma : (r : ℕ × ℕ) (piece : List ℕ) → SpellsRange r piece → NoCom
 no_comma r piece (inl (s, same)) = subst NoComma (sym s.word_is) (no_byte_comma [] s tt)
 no_comma r piece (inr s) = grind (arith, common_steps)
 
-pieces_again
-    : (ranges : List (ℕ × ℕ)) (pieces : List (List ℕ)) → 0 < length pieces → SpellsRanges ranges pieces
+pieces_again : (ranges : List (ℕ × ℕ)) (pieces : List (List ℕ)) → 0 < length pieces → SpellsRanges ranges pieces
     → slice_split (λ b. eqb b 44) (join_with_byte 44 pieces) ≡ pieces
 pieces_again [] [] some s = absurd (omega arith)
 pieces_again [] (piece ∷ pieces) some s = absurd s
@@ -150,8 +145,7 @@ first_digit : (r : ℕ × ℕ) (piece more : List ℕ) → SpellsRange r piece �
 first_digit r piece more (inl (s, same)) e = grind (arith, common_steps)
 first_digit r piece more (inr s) e = grind (arith, common_steps)
 
-not_none
-    : (ranges : List (ℕ × ℕ)) (pieces : List (List ℕ)) → 0 < length pieces → SpellsRanges ranges pieces
+not_none : (ranges : List (ℕ × ℕ)) (pieces : List (List ℕ)) → 0 < length pieces → SpellsRanges ranges pieces
     → join_with_byte 44 pieces ≢ codes "none"
 not_none [] [] some s e = absurd (omega arith)
 not_none [] (piece ∷ pieces) some s e = absurd s

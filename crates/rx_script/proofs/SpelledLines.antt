@@ -17,8 +17,7 @@ abbrev AreParts : Bool → List (List ℕ) → Type 0
 AreParts gap [] = ⊥
 AreParts gap (w ∷ ws) = AllByRecursion IsVisible w × (gap ≡ true → 0 < length w) × AllByRecursion IsWord ws
 
-parts_onto
-    : (b : ℕ) (gap : Bool) (parts : List (List ℕ)) → IsVisible b → AreParts false parts
+parts_onto : (b : ℕ) (gap : Bool) (parts : List (List ℕ)) → IsVisible b → AreParts false parts
     → AreParts gap (onto_first b parts)
 parts_onto b gap [] v h = absurd h
 parts_onto b gap (w ∷ ws) v h = ((v, h.0), (λ g. omega arith), h.2)
@@ -27,8 +26,7 @@ parts_words : (parts : List (List ℕ)) → AreParts true parts → AllByRecursi
 parts_words [] h = absurd h
 parts_words (w ∷ ws) h = ((h.1 refl, h.0), h.2)
 
-parts_at
-    : (gap t : Bool) (b : ℕ) (bs : List ℕ) → eqb b 32 ≡ t
+parts_at : (gap t : Bool) (b : ℕ) (bs : List ℕ) → eqb b 32 ≡ t
     → cond t (not gap && is_spaced true bs) (leb 33 b && leb b 126 && is_spaced false bs) ≡ true
     → ((g : Bool) → is_spaced g bs ≡ true → AreParts g (words_of bs))
     → AreParts gap (cond t ([] ∷ words_of bs) (onto_first b (words_of bs)))
@@ -52,8 +50,7 @@ spaced_line line h =
 
 -- ---- and the other way
 
-visible_steps
-    : (word rest : List ℕ) (gap : Bool) → AllByRecursion IsVisible word → 0 < length word
+visible_steps : (word rest : List ℕ) (gap : Bool) → AllByRecursion IsVisible word → 0 < length word
     → is_spaced gap (word ++ rest) ≡ is_spaced false rest
 visible_steps [] rest gap v some = absurd (omega arith)
 visible_steps (b ∷ []) rest gap v some =
@@ -63,16 +60,14 @@ visible_steps (b ∷ (c ∷ cs)) rest gap v some =
     let ne : eqb b 32 ≡ false = ne_eqb b 32 (λ e. omega arith) in
     rw (ne, le-leb 33 b v.0.0, le-leb b 126 v.0.1) (visible_steps (c ∷ cs) rest false v.1 (omega arith))
 
-pub line_spaced
-    : (words : List (List ℕ)) (gap : Bool) → AllByRecursion IsWord words → 0 < length words
+pub line_spaced : (words : List (List ℕ)) (gap : Bool) → AllByRecursion IsWord words → 0 < length words
     → is_spaced gap (line_text words) ≡ true
 line_spaced [] gap each some = absurd (omega arith)
 line_spaced (w ∷ []) gap each some = ap (is_spaced gap) (sym (append-nil w)) ∙ visible_steps w [] gap each.0.1 each.0.0
 line_spaced (w ∷ (v ∷ ws)) gap each some =
     visible_steps w (32 ∷ line_text (v ∷ ws)) gap each.0.1 each.0.0 ∙ line_spaced (v ∷ ws) true each.1 (omega arith)
 
-not_byte
-    : (c : ℕ) (word : List ℕ) → c < 33 → AllByRecursion IsVisible word → AllByRecursion (λ x. eqb x c ≡ false) word
+not_byte : (c : ℕ) (word : List ℕ) → c < 33 → AllByRecursion IsVisible word → AllByRecursion (λ x. eqb x c ≡ false) word
 not_byte c [] lt v = tt
 not_byte c (b ∷ bs) lt v = (ne_eqb b c (λ e. omega arith), not_byte c bs lt v.1)
 
@@ -107,8 +102,7 @@ joined_onto b bs (l ∷ []) (inr e) = inr (omega arith, ap (λ (x : List ℕ). b
 joined_onto b bs (l ∷ (m ∷ ls)) (inl e) = inl (ap (λ (x : List ℕ). b ∷ x) e)
 joined_onto b bs (l ∷ (m ∷ ls)) (inr e) = inr (omega arith, ap (λ (x : List ℕ). b ∷ x) e.1)
 
-joined_at
-    : (t : Bool) (b : ℕ) (bs : List ℕ) (lines : List (List ℕ)) → eqb b 10 ≡ t → IsJoined bs lines
+joined_at : (t : Bool) (b : ℕ) (bs : List ℕ) (lines : List (List ℕ)) → eqb b 10 ≡ t → IsJoined bs lines
     → IsJoined (b ∷ bs) (cond t ([] ∷ lines) (onto_first b lines))
 joined_at true b bs lines e h =
     subst (λ (x : ℕ). IsJoined (x ∷ bs) ([] ∷ lines)) (sym (eqb-true b 10 e)) (joined_newline bs lines h)
@@ -119,8 +113,7 @@ lines_joined [] = inl refl
 lines_joined (b ∷ bs) = joined_at (eqb b 10) b bs (lines_of bs) refl (lines_joined bs)
 
 -- a line without the byte 10 is read as one
-first_line
-    : (line rest : List ℕ) → AllByRecursion (λ x. eqb x 10 ≡ false) line
+first_line : (line rest : List ℕ) → AllByRecursion (λ x. eqb x 10 ≡ false) line
     → lines_of (line ++ 10 ∷ rest) ≡ line ∷ lines_of rest
 first_line line rest none =
     let pieces = slice_split (λ b. eqb b 10) rest in
@@ -135,8 +128,7 @@ last_line : (line : List ℕ) → AllByRecursion (λ x. eqb x 10 ≡ false) line
 last_line [] none some = absurd (omega arith)
 last_line (b ∷ bs) none some = grind (arith, common_steps, lines_trimmed, slice_split_none)
 
-pub each-append
-    : {A : Type 0} (P : A → Type 0) (xs ys : List A) → AllByRecursion P xs → AllByRecursion P ys
+pub each-append : {A : Type 0} (P : A → Type 0) (xs ys : List A) → AllByRecursion P xs → AllByRecursion P ys
     → AllByRecursion P (xs ++ ys)
 each-append P [] ys p q = q
 each-append P (x ∷ xs) ys p q = (p.0, each-append P xs ys p.1 q)
@@ -164,8 +156,7 @@ lines_again (words ∷ (more ∷ lines)) each =
     first_line (line_text words) (lines_text (more ∷ lines)) (without_ten words each.0.1)
     ∙ ap (λ (xs : List (List ℕ)). line_text words ∷ xs) (lines_again (more ∷ lines) each.1)
 
-lines_ended
-    : (lines : List (List (List ℕ))) → AllByRecursion IsLine lines → 0 < length lines
+lines_ended : (lines : List (List (List ℕ))) → AllByRecursion IsLine lines → 0 < length lines
     → lines_of (lines_text lines ++ 10 ∷ []) ≡ map line_text lines
 lines_ended [] each some = absurd (omega arith)
 lines_ended (words ∷ []) each some = first_line (line_text words) [] (without_ten words each.0.1)

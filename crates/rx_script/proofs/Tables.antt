@@ -17,8 +17,7 @@ same_word word other e = (bytes_eq-Decides word other).0 e
 pub other_word : (word other : List ℕ) → word ≢ other → bytes_eq word other ≡ false
 other_word word other ne = false_from_ne_true (bytes_eq word other) (λ e. ne (same_word word other e))
 
-named_is
-    : {A : Type 0} (name : A → List ℕ) (things : List A) (word : List ℕ) (thing : A)
+named_is : {A : Type 0} (name : A → List ℕ) (things : List A) (word : List ℕ) (thing : A)
     → named name things word ≡ Some thing → word ≡ name thing
 named_is name [] word thing e = absurd cc
 named_is name (x ∷ xs) word thing e = elim (cases_Bool (bytes_eq word (name x))) [

@@ -1,8 +1,7 @@
 -- What a call of an overlapping search adds to a set of patterns.
 use Rattle.rx_spec.proofs.Prelude.{common_steps, ◌≡◌, ◌<◌, ◌||◌, Bool, true, false, if◌then◌else◌, Option, Some, None}
-use Rattle.rx_spec.proofs.Prelude.{Result, Ok, Err, List, [], ◌∷◌, length, refl, ap, sym, ◌∙◌, arith, slice_set, IsTrue}
-use Rattle.rx_spec.proofs.Prelude.{◌↔◌, or_left, or_right, eq-eqb, HalfMatch, MatchError, Item, Ending}
-use Rattle.rx_spec.proofs.Prelude.{OverlappingMatches}
+use Rattle.rx_spec.proofs.Prelude.{Result, Ok, Err, List, [], ◌∷◌, length, refl, ap, ◌∙◌, arith, slice_set, IsTrue, ◌↔◌}
+use Rattle.rx_spec.proofs.Prelude.{or_left, or_right, eq-eqb, HalfMatch, MatchError, Item, Ending, OverlappingMatches}
 use Rattle.rx_base.specs.PatternSet.{pattern_count}
 use Rattle.rx_search.specs.Collected.{Collected, is_full, ending_result, collected}
 use Rattle.rx_search.specs.OverlappingCalls.{item_call}
@@ -66,12 +65,7 @@ module _ (earliest : Bool) (set : List Bool) {before : OverlappingMatches} {resu
     on stops = if stops then record { result = Ok tt; set = more } else collect earliest after more
 
     collect_on : collect earliest before set ≡ on (is_full more || earliest)
-    collect_on =
-        let p = parts in
-        ap (λ (items : List Item). collected earliest items before.ending set) p.1
-        ∙ collected-more earliest h p.0 before.ending set
-        ∙ ap (λ (m : OverlappingMatches). if is_full more || earliest then record { result = Ok tt; set = more }
-        else collect earliest m more) (sym p.3)
+    collect_on = grind (arith, common_steps, parts, collected-more)
 
     pub collect_full : is_full (slice_set set h.pattern true) ≡ true
         → collect earliest before set ≡ record { result = Ok tt; set = slice_set set h.pattern true }
@@ -86,11 +80,7 @@ module _ (earliest : Bool) (set : List Bool) {before : OverlappingMatches} {resu
     collect_on_next room later = collect_on ∙ ap (λ (full : Bool). on (full || earliest)) room ∙ ap on later
 
     pub fewer_items : length after.items < length before.items
-    fewer_items =
-        let p = parts in
-        let n = ap length p.1 in
-        let m = ap (λ (m : OverlappingMatches). length m.items) p.3 in
-        omega arith
+    fewer_items = grind (arith, common_steps, parts)
 
 -- what a set says of itself
 pub full_is : (set : List Bool) {full : Bool} → (IsTrue full ↔ (pattern_count set ≡ length set)) → full ≡ true

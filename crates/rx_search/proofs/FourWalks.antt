@@ -25,9 +25,7 @@ module _ {t : Table} {ids haystack : List ℕ} {from : ℕ} where
     where
       in_part : (part row : ℕ) → t.machine.next row (slice_index haystack (from + count + part))
           ≡ t.machine.next row (slice_index haystack (from + part + count))
-      in_part part row =
-          let same : from + count + part ≡ from + part + count = omega arith in
-          ap (λ (offset : ℕ). t.machine.next row (slice_index haystack offset)) same
+      in_part part row = grind (arith, common_steps)
 
   module _ {entries exits : Rows} (walks : AreWalks t ids haystack from 1024 entries exits) where
     pub through_two : exits.first ≡ entries.second

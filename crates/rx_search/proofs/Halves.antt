@@ -1,10 +1,10 @@
 -- What a half search tells, from stop to stop.
-use Rattle.rx_spec.proofs.Prelude.{common_steps, ◌≡◌, ◌≢◌, ℕ, ◌+◌, ◌^◌, ◌<◌, ◌≤◌, inl, inr, Bool, true, false, Option}
-use Rattle.rx_spec.proofs.Prelude.{if◌then◌else◌, Some, None, Ok, Err, List, [], ◌∷◌, length, drop, refl, ap, ap₂, sym}
-use Rattle.rx_spec.proofs.Prelude.{◌∙◌, arith, slice_index, AreBytes, Query, HalfMatch, MatchError, IsFit, is_done}
-use Rattle.rx_spec.proofs.Prelude.{start_context, Label, Machine, IsWord, HalfAnswer, first_offset, next_offset}
-use Rattle.rx_spec.proofs.Prelude.{units_of, first_match, last_match, at_label, walk, whole_walk, half_search, beside}
-use Rattle.rx_spec.proofs.Prelude.{ltb-false, Table, IsSound, is_match}
+use Rattle.rx_spec.proofs.Prelude.{rules, common_steps, ◌≡◌, ◌≢◌, ℕ, ◌+◌, ◌^◌, ◌<◌, ◌≤◌, inl, inr, Bool, true, false}
+use Rattle.rx_spec.proofs.Prelude.{Option, if◌then◌else◌, Some, None, Ok, Err, List, [], ◌∷◌, length, drop, refl, ap}
+use Rattle.rx_spec.proofs.Prelude.{ap₂, sym, ◌∙◌, arith, slice_index, AreBytes, Query, HalfMatch, MatchError, IsFit}
+use Rattle.rx_spec.proofs.Prelude.{is_done, start_context, Label, Machine, IsWord, HalfAnswer, first_offset}
+use Rattle.rx_spec.proofs.Prelude.{next_offset, units_of, first_match, last_match, at_label, walk, whole_walk}
+use Rattle.rx_spec.proofs.Prelude.{half_search, beside, ltb-false, Table, IsSound, is_match}
 use Rattle.rx_search.specs.Starts.{IsStart}
 use Rattle.rx_spec.specs.declared.Direction.{Direction}
 use Rattle.lemmas_walks.proofs.Firsts.{by_test}
@@ -13,8 +13,8 @@ use Rattle.lemmas_walks.proofs.Words.{IsWord-head}
 use Rattle.lemmas_walks.proofs.Walking.{walk-nil, walk-cons}
 use Rattle.rx_search.specs.Labels.{patterns_of, IsFinal}
 use Rattle.rx_search.specs.Needles.{byte_ahead, Skips}
-use Rattle.rx_search.specs.Walks.{rest, last_offset, previous_offset, units_left, units_after, at_stop_label, next_stop}
-use Rattle.rx_search.specs.Walks.{Stop, stop_error, IsInSpan, IsMet}
+use Rattle.rx_search.specs.Walks.{last_offset, previous_offset, units_left, units_after, at_stop_label, next_stop, Stop}
+use Rattle.rx_search.specs.Walks.{stop_error, IsInSpan, IsMet}
 use Rattle.rx_search.specs.Counted.{HasRoomFor, IsReady, ends_at, counted, counted_on}
 use Rattle.rx_search.proofs.Standing.{Standing, match_label}
 use Rattle.rx_search.proofs.Walks.{Place, stop-nil, stop-cons, units_left-more, units_left-last, byte_there, loops}
@@ -56,15 +56,7 @@ module _ (m : Machine ℕ) (direction : Direction) (earliest : Bool) (last : Opt
           (if m.is_dead (m.next row unit) then Stop.Ended
           else next_stop m direction (m.next row unit) (next_offset direction offset) units))
       by_label Label.Quits e later = rw e refl
-      by_label (Label.Matches ks) e later =
-          let met = last_match (m.label (m.next row unit)) offset last in
-          ap (λ (l : Label). at_label l direction earliest unit offset (Ok met)
-          (if m.is_dead (m.next row unit) then Ok met
-          else walk m direction earliest (m.next row unit) (next_offset direction offset) met units)) e
-          ∙ ap (λ (l : Label). by_stop m direction earliest last
-          (at_stop_label l direction (m.next row unit) unit offset units
-          (if m.is_dead (m.next row unit) then Stop.Ended
-          else next_stop m direction (m.next row unit) (next_offset direction offset) units))) (sym e)
+      by_label (Label.Matches ks) e later = grind (arith, common_steps)
       by_label Label.Plain e later = by_test (m.is_dead (m.next row unit)) (λ d. rw (e, d) refl) (λ d. rw (e, d) later)
 
 pub first_is : (ks : List ℕ) (offset : ℕ)
@@ -127,13 +119,7 @@ walk_final : {t : Table} {row : ℕ} → Standing t row → IsFinal t row → (d
     → walk t.machine direction earliest row offset (Some last) units ≡ Ok (Some last)
 walk_final {t} {row} s final direction earliest offset last [] word = grind (arith, common_steps, walk-nil)
 walk_final {t} {row} s final direction earliest offset last (unit ∷ units) word =
-    let on = λ (r : ℕ) (label : Label) (dead : Bool).
-    let met = last_match label offset (Some last) in
-    at_label label direction earliest unit offset (Ok met)
-    (if dead then Ok met else walk t.machine direction earliest r (next_offset direction offset) met units) in
-    walk-cons t.machine direction earliest row unit offset (Some last) units
-    ∙ ap (λ (r : ℕ). on r (t.machine.label r) (t.machine.is_dead r)) (final.to_dead unit (IsWord-head unit units word))
-    ∙ ap₂ (on 0) s.sound.is_table.dead_label (s.sound.is_table.dead_only 0 (omega arith))
+    grind (arith, common_steps, walk-cons, IsWord-head)
 
 -- ---- how far a half search has come
 
@@ -244,12 +230,7 @@ module _ {t : Table} {direction : Direction} {q : Query} {first now : Standpoint
         kept (units_after direction q offset))
 
     met_on : walk_left t direction q first None ≡ goes_on (Some (match_at t next offset)) q.earliest false
-    met_on =
-        to_stop ∙ ap (by_stop t.machine direction q.earliest last) stops
-        ∙ ap (λ (l : Label). goes_on (last_match l offset last) q.earliest (t.machine.is_dead next)) label
-        ∙ ap (λ (h : HalfMatch). goes_on (Some h) q.earliest (t.machine.is_dead next))
-        (first_is (patterns_of t next) offset)
-        ∙ ap (goes_on (Some (match_at t next offset)) q.earliest) (match_alive s.sound.is_table next s.below label)
+    met_on = search (rules, to_stop, label, first_is, match_alive)
 
     pub half_earliest : q.earliest ≡ true
         → walk_left t direction q first None ≡ Ok (Some (match_at t next offset))
@@ -264,24 +245,12 @@ module _ {t : Table} {direction : Direction} {q : Query} {first now : Standpoint
     module _ (o : Open q) where
       pub half_last : q.earliest ≡ false → offset ≡ last_offset direction q
           → walk_left t direction q first None ≡ Ok (Some (match_at t next offset))
-      half_last e over =
-          let none = ap (units_after direction q) over ∙ ap (drop 1) (units_left-last direction q o.order o.fits) in
-          goes e
-          ∙ ap (walk t.machine direction q.earliest next (next_offset direction offset)
-          (Some (match_at t next offset))) none
-          ∙ walk-nil t.machine direction q.earliest next (next_offset direction offset) (Some (match_at t next offset))
+      half_last e over = grind (arith, common_steps, units_left-last, goes, walk-nil)
 
       -- nor is one told behind a row that leads to the dead row alone
       pub half_final : AreBytes q.haystack → q.earliest ≡ false → offset ≢ last_offset direction q → IsFinal t next
           → walk_left t direction q first None ≡ Ok (Some (match_at t next offset))
-      half_final bytes e ne final =
-          let place : Place q offset = record { fits = o.fits; in_span = m.in_span } in
-          let from = next_offset direction offset in
-          goes e
-          ∙ ap (walk t.machine direction q.earliest next from (Some (match_at t next offset)))
-          (ap (drop 1) (units_left-more direction place ne))
-          ∙ walk_final s final direction q.earliest from (match_at t next offset) (units_left direction q from)
-          (units_word direction (rest direction q from) (bytes_on direction q from bytes))
+      half_final bytes e ne final = search (rules, goes, units_left-more, walk_final, units_word, bytes_on)
 
       -- behind it and what may be skipped there the search goes on
       pub half_on : AreBytes q.haystack → q.earliest ≡ false → offset ≢ last_offset direction q → (steps : ℕ)

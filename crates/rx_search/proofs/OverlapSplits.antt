@@ -1,8 +1,7 @@
 -- Matches that split a character are passed over by an overlapping search, call by call.
-use Rattle.rx_spec.proofs.Prelude.{common_steps, ◌≡◌, ◌<◌, Bool, true, false, if◌then◌else◌, Option, Some, None, Result}
-use Rattle.rx_spec.proofs.Prelude.{Ok, List, [], ◌∷◌, ◌++◌, length, ap, ap₂, sym, ◌∙◌, arith, flat_map, Query}
-use Rattle.rx_spec.proofs.Prelude.{HalfMatch, MatchError, is_anchored, Item, Ending, OverlappingMatches, is_split}
-use Rattle.rx_spec.proofs.Prelude.{item_unsplit}
+use Rattle.rx_spec.proofs.Prelude.{common_steps, ◌≡◌, ◌<◌, true, false, Option, Some, None, Result, Ok, List, [], ◌∷◌}
+use Rattle.rx_spec.proofs.Prelude.{◌++◌, length, ap, sym, arith, Query, HalfMatch, MatchError, is_anchored, Item}
+use Rattle.rx_spec.proofs.Prelude.{Ending, OverlappingMatches, is_split, item_unsplit}
 use Rattle.rx_spec.specs.Splits.{items_unsplit}
 use Rattle.rx_search.specs.OverlappingCalls.{item_call, next_call}
 
@@ -44,12 +43,7 @@ module _ (q : Query) {before : OverlappingMatches} {result : Result (Unit {0}) M
     -- what is made of the match, in front of what is made of the others
     front : items_unsplit q before
         ≡ record { items = item_unsplit q (Item.Reported h) ++ (items_unsplit q after).items; ending = before.ending }
-    front =
-        let p = parts in
-        ap (λ (items : List Item). record { items = flat_map (item_unsplit q) items; ending = before.ending }) p.1
-        ∙ ap (λ (m : OverlappingMatches).
-        record { items = item_unsplit q (Item.Reported h) ++ (items_unsplit q m).items; ending = before.ending })
-        (sym p.3)
+    front = grind (arith, common_steps, parts)
 
     ending_same : before.ending ≡ after.ending
     ending_same = sym (ap (λ (m : OverlappingMatches). m.ending) parts.3)
@@ -58,43 +52,15 @@ module _ (q : Query) {before : OverlappingMatches} {result : Result (Unit {0}) M
     fronted items = record { items = items ++ (items_unsplit q after).items; ending = before.ending }
 
     pub unsplit_whole : is_split q.haystack h.offset ≡ false → UnsplitCall q before result told after
-    unsplit_whole whole =
-        let item = ap (λ (split : Bool). if split then (if is_anchored q.mode then Item.Skipped ∷ [] else [])
-        else (Item.Reported h ∷ [])) whole in
-        ap₂ (λ (r : Result (Unit {0}) MatchError) (o : Option HalfMatch).
-        record { result = r; told = o; left = items_unsplit q after }) parts.2 t
-        ∙ ap (λ (ending : Ending). record {
-          result = Ok tt;
-          told = Some h;
-          left = record { items = (items_unsplit q after).items; ending = ending };
-        }) (sym ending_same)
-        ∙ sym (ap next_call (front ∙ ap fronted item))
+    unsplit_whole whole = grind (arith, common_steps, parts, ending_same, front)
 
     pub unsplit_silent : is_split q.haystack h.offset ≡ true → is_anchored q.mode ≡ true
         → UnsplitCall q before result None after
-    unsplit_silent split anchored =
-        let item = ap₂ (λ (split anchored : Bool). if split then (if anchored then Item.Skipped ∷ [] else [])
-        else (Item.Reported h ∷ [])) split anchored in
-        ap (λ (r : Result (Unit {0}) MatchError). record { result = r; told = None; left = items_unsplit q after })
-        parts.2
-        ∙ ap (λ (ending : Ending). record {
-          result = Ok tt;
-          told = None;
-          left = record { items = (items_unsplit q after).items; ending = ending };
-        }) (sym ending_same)
-        ∙ sym (ap next_call (front ∙ ap fronted item))
+    unsplit_silent split anchored = grind (arith, common_steps, parts, ending_same, front)
 
     pub unsplit_again : is_split q.haystack h.offset ≡ true → is_anchored q.mode ≡ false
         → next_call (items_unsplit q before) ≡ next_call (items_unsplit q after)
-    unsplit_again split goes =
-        let item = ap₂ (λ (split anchored : Bool). if split then (if anchored then Item.Skipped ∷ [] else [])
-        else (Item.Reported h ∷ [])) split goes in
-        ap next_call (front ∙ ap fronted item
-        ∙ ap (λ (ending : Ending). record { items = (items_unsplit q after).items; ending = ending }) ending_same)
+    unsplit_again split goes = grind (arith, common_steps, front, ending_same)
 
     pub fewer_left : length after.items < length before.items
-    fewer_left =
-        let p = parts in
-        let n = ap length p.1 in
-        let m = ap (λ (m : OverlappingMatches). length m.items) p.3 in
-        omega arith
+    fewer_left = grind (arith, common_steps, parts)

@@ -51,14 +51,7 @@ module _ (m : Machine ℕ) (direction : Direction) where
           (if m.is_dead (m.next row unit) then Stop.Ended
           else next_stop m direction (m.next row unit) (next_offset direction offset) units))
       by_label Label.Quits e later = rw e refl
-      by_label (Label.Matches ks) e later =
-          let on = if m.is_dead (m.next row unit) then none_left Ending.Ended
-          else overlapping_walk m direction (m.next row unit) (next_offset direction offset) units in
-          ap (λ (l : Label). at_item_label l direction unit offset on) e
-          ∙ ap (λ (l : Label). with_items (label_items l offset) on) (sym e)
-          ∙ ap (λ (l : Label). told_by_stop m direction (at_stop_label l direction (m.next row unit) unit offset units
-          (if m.is_dead (m.next row unit) then Stop.Ended
-          else next_stop m direction (m.next row unit) (next_offset direction offset) units))) (sym e)
+      by_label (Label.Matches ks) e later = grind (arith, common_steps)
       by_label Label.Plain e later = by_test (m.is_dead (m.next row unit)) (λ d. rw (e, d) refl) (λ d. rw (e, d) later)
 
 -- ---- calls
@@ -114,18 +107,13 @@ module _ {t : Table} {row : ℕ} (s : Standing t row) (is : is_match t row ≡ t
     pub over_at : offset ≡ last_offset direction q
         → overlapping_walk t.machine direction row (next_offset direction offset) (units_after direction q offset)
         ≡ none_left Ending.Ended
-    over_at e =
-        ap (overlapping_walk t.machine direction row (next_offset direction offset))
-        (ap (units_after direction q) e ∙ ap (drop 1) (units_left-last direction q o.order o.fits))
-        ∙ overlapping-nil t.machine direction row (next_offset direction offset)
+    over_at e = grind (arith, common_steps, units_left-last, overlapping-nil)
 
     pub goes_on_at : offset ≢ last_offset direction q
         → overlapping_walk t.machine direction row (next_offset direction offset) (units_after direction q offset)
         ≡ overlapping_walk t.machine direction row (next_offset direction offset)
         (units_left direction q (next_offset direction offset))
-    goes_on_at ne =
-        ap (overlapping_walk t.machine direction row (next_offset direction offset))
-        (ap (drop 1) (units_left-more direction place ne))
+    goes_on_at ne = grind (arith, common_steps, units_left-more, place)
 
 -- ---- stops
 

@@ -185,11 +185,7 @@ module _ {t : Table} {direction : Direction} {q : Query} {row from next to : ℕ
     where
       by_count : (count : ℕ) → Leads t direction q.haystack row from next count
           → to ≡ offset_after direction from count → Way t direction q row from next to count → Ready
-      by_count zero leads there w =
-          let same : to ≡ from = there ∙ sym (offset_after-zero direction from) in
-          λ r. subst (λ (o : ℕ). IsReady t direction q next o) (sym same)
-          (subst (λ (n : ℕ). IsReady t direction q n from)
-          (sym (leads.next_is ∙ row_on-zero t.machine direction q.haystack row from)) r)
+      by_count zero leads there w = grind (arith, common_steps, offset_after-zero, row_on-zero)
       by_count (suc n) leads there w =
           let one : n + 1 ≡ suc n = omega arith in
           let plain = ap t.is_special leads.next_is

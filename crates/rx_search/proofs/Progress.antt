@@ -1,12 +1,11 @@
 -- How far a walk has come that looks for its next stop, and what each turn adds.
-use Rattle.rx_spec.proofs.Prelude.{common_steps, ◌≡◌, ◌≢◌, ℕ, ◌+◌, ◌-◌, ◌^◌, ◌<◌, ◌≤◌, ◌==◌, inl, inr, true, false}
-use Rattle.rx_spec.proofs.Prelude.{Some, Ok, length, ap, sym, ◌∙◌, subst, arith, AreBytes, Query, MatchError, Table}
+use Rattle.rx_spec.proofs.Prelude.{rules, common_steps, ◌≡◌, ◌≢◌, ℕ, ◌+◌, ◌-◌, ◌^◌, ◌<◌, ◌≤◌, ◌==◌, inl, inr, true}
+use Rattle.rx_spec.proofs.Prelude.{false, Some, Ok, length, ap, ◌∙◌, arith, AreBytes, Query, MatchError, Table}
 use Rattle.rx_spec.proofs.Prelude.{is_match, next_offset, unit_offset}
 use Rattle.rx_spec.specs.declared.Direction.{Direction}
 use Rattle.rx_search.specs.Labels.{is_quit}
 use Rattle.rx_search.specs.Needles.{byte_ahead, Skips}
-use Rattle.rx_search.specs.Walks.{IsInSpan, last_offset, bytes_left, units_left, units_after, next_stop, Stop}
-use Rattle.rx_search.specs.Walks.{stop_error, StopsAt}
+use Rattle.rx_search.specs.Walks.{IsInSpan, last_offset, bytes_left, units_left, next_stop, Stop, stop_error, StopsAt}
 use Rattle.rx_search.specs.Counted.{HasRoom, IsReady, counted, counted_on}
 use Rattle.rx_search.proofs.Walks.{next_place, next_left, IsQuiet, Step, step_quiet, step_match, step_quits, step_ends}
 use Rattle.rx_search.proofs.Walks.{LastStep, last_match, last_quits, last_ends, skip_stops, skip_left}
@@ -116,16 +115,7 @@ module _ {t : Table} {direction : Direction} {q : Query} {first now : Standpoint
     pub last_met_stop : {last : ℕ} → last ≡ last_offset direction q → is_match t next ≡ true
         → StopsAt t direction q first.offset next
         (next_stop t.machine direction first.row first.offset (units_left direction q first.offset)) (Ok (Some last))
-    last_met_stop {last} last_is is = (
-      last_stop ∙ last_match s is
-          ∙ ap (λ (o : ℕ). Stop.Match next o (units_after direction q o)) (sym last_is),
-      record {
-        in_span = subst (IsInSpan q) (over ∙ sym last_is) p.in_span;
-        on = subst (λ (o : ℕ). bytes_left direction q o ≤ bytes_left direction q first.offset)
-            (over ∙ sym last_is) p.on;
-        is_match = is;
-      },
-    )
+    last_met_stop {last} last_is is = grind (arith, common_steps, last_stop, last_match)
 
     last_count : Ready → now.steps + 1
         ≤ first.steps + counted t q.earliest first.row (units_left direction q first.offset)
@@ -136,9 +126,7 @@ module _ {t : Table} {direction : Direction} {q : Query} {first now : Standpoint
     pub last_met_count : {last : ℕ} → last ≡ last_offset direction q → Ready
         → now.steps + 1 + counted_on t direction q next (Ok (Some last))
         ≤ first.steps + counted t q.earliest first.row (units_left direction q first.offset)
-    last_met_count {last} last_is r =
-        let here = ap (λ (o : ℕ). counted_on t direction q next (Ok (Some o))) last_is in
-        omega (arith, last_count r, last_match_counted s)
+    last_met_count {last} last_is r = search (rules, last_count, last_match_counted)
 
     pub last_end_count : Ready
         → now.steps + 1 ≤ first.steps + counted t q.earliest first.row (units_left direction q first.offset)

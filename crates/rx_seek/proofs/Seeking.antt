@@ -1,10 +1,9 @@
 -- How a text goes on of which the last bytes are kept.
+use Rattle.std.proofs.lemmas.Grind.{common_steps}
 use Rattle.rx_spec.proofs.Prelude.{◌≡◌, ℕ, ◌+◌, ◌-◌, ◌<◌, ◌≤◌, min, ◌++◌, List, [], length, slice_index, Option, Some}
 use Rattle.rx_spec.proofs.Prelude.{None, ap, refl, sym, ◌∙◌, subst, ⊎_elim, arith, take, drop, length-append}
-use Rattle.rx_spec.proofs.Prelude.{length-drop, length-take, length-take-le, cases_lt, get_or_default, get_or-drop}
-use Rattle.rx_spec.proofs.Prelude.{get_or-take, MatchOption, Consumes, AreBytes}
+use Rattle.rx_spec.proofs.Prelude.{length-take-le, cases_lt, get_or_default, MatchOption, Consumes, AreBytes}
 use Rattle.std.proofs.Math.ListN.{get_or-append}
-use Rattle.std.proofs.Math.Seq.{get_or-append_right}
 use Rattle.memchr.specs.Find.{OccursAt}
 use Rattle.rx_prefilter.specs.OnlyLiterals.{IsFirstPlace}
 use Rattle.rx_transfer.proofs.Transfers.{consumes_more, consumes_none}
@@ -33,14 +32,14 @@ none_read left asked buffer some = record {
   taken = consumes_none left;
   is_sought = record {
     count = refl;
-    bytes = λ k d h. absurd (omega (arith, h));
-    first = λ at low high o. omega (arith, high, some);
+    bytes = λ k d h. absurd (omega arith);
+    first = λ at low high o. omega arith;
   };
   are_kept = record {
     enough = omega arith;
     few = omega arith;
     within = omega arith;
-    last = λ i h. absurd (omega (arith, h));
+    last = λ i h. absurd (omega arith);
   };
 }
 
@@ -61,21 +60,7 @@ module _ (kept room count : ℕ) (old new : List ℕ) (same : take kept new ≡ 
   pub shows_read : AreBytes (take (kept + count) new)
       → Shows old kept (take count (take room (drop kept new))) (take (kept + count) new)
   shows_read bytes =
-      let n = read_len in
-      let first = length-take room (drop kept new) in
-      let rest = length-drop kept new in
-      let all = length-take (kept + count) new in
-      record {
-        count = omega (arith, n, first, rest, all, few, within);
-        bytes = bytes;
-        old = λ i h.
-            get_or-take (kept + count) new i 0 (omega (arith, h)) ∙ sym (get_or-take kept new i 0 h)
-            ∙ ap (λ (l : List ℕ). slice_index l i) same ∙ get_or-take kept old i 0 h;
-        new = λ i h.
-            get_or-take (kept + count) new (kept + i) 0 (omega (arith, h, n)) ∙ sym (get_or-drop kept new i 0)
-            ∙ sym (get_or-take room (drop kept new) i 0 (omega (arith, h, n, few, first)))
-            ∙ sym (get_or-take count (take room (drop kept new)) i 0 (omega (arith, h, n)));
-      }
+      grind (arith, common_steps)
 
 module _ {before after : Option (List ℕ)} {asked : Asked} {sought : Sought} {buffer : List ℕ} {kept : ℕ}
     (u : IsUnderWay before after asked sought buffer kept) {read window : List ℕ}
@@ -95,27 +80,11 @@ module _ {before after : Option (List ℕ)} {asked : Asked} {sought : Sought} {b
   old_byte : (i : ℕ) → i < length u.text → slice_index (u.text ++ read) i ≡ slice_index u.text i
   old_byte i h = get_or-append u.text read 0 i h
 
-  new_byte : (i : ℕ) → slice_index (u.text ++ read) (length u.text + i) ≡ slice_index read i
-  new_byte i =
-      let from : length u.text + i - length u.text ≡ i = omega arith in
-      get_or-append_right u.text read (length u.text + i) 0 (omega arith) ∙ ap (slice_index read) from
-
   -- the window is what the text then ends with
   pub window_byte : (i : ℕ) → i < length window
       → slice_index window i ≡ slice_index (u.text ++ read) (length u.text - kept + i)
   window_byte i h =
-      let within = u.are_kept.within in
-      let count = shows.count in
-      ⊎_elim
-      (λ (low : i < kept).
-      shows.old i low ∙ u.are_kept.last i low ∙ sym (old_byte (length u.text - kept + i) (omega (arith, low, within))))
-      (λ (high : kept ≤ i).
-      let at : kept + (i - kept) ≡ i = omega (arith, high) in
-      let there : length u.text + (i - kept) ≡ length u.text - kept + i = omega (arith, high, within) in
-      ap (slice_index window) (sym at) ∙ shows.new (i - kept) (omega (arith, high, h, count))
-      ∙ sym (new_byte (i - kept))
-      ∙ ap (slice_index (u.text ++ read)) there)
-      (cases_lt i kept)
+      grind (arith, common_steps)
 
   bytes : AreBytes (u.text ++ read)
   bytes k d h =
@@ -127,11 +96,11 @@ module _ {before after : Option (List ℕ)} {asked : Asked} {sought : Sought} {b
       subst (λ (b : ℕ). b < 256) (sym (get_or-append u.text read d k low)) (u.is_sought.bytes k d low))
       (λ (high : length u.text ≤ k).
       let at = k - (length u.text - kept) in
-      let there : length u.text - kept + at ≡ k = omega (arith, high, within) in
+      let there : length u.text - kept + at ≡ k = omega arith in
       subst (λ (b : ℕ). b < 256)
-      (window_byte at (omega (arith, h, all, within, count, high)) ∙ ap (slice_index (u.text ++ read)) there
+      (window_byte at (omega (arith, h)) ∙ ap (slice_index (u.text ++ read)) there
       ∙ get_or_default (u.text ++ read) k 0 d h)
-      (shows.bytes at 0 (omega (arith, h, all, within, count, high))))
+      (shows.bytes at 0 (omega (arith, h))))
       (cases_lt k (length u.text))
 
   -- where the literal occurs in the window, it occurs in the text, and the other way round
@@ -143,11 +112,11 @@ module _ {before after : Option (List ℕ)} {asked : Asked} {sought : Sought} {b
       let within = u.are_kept.within in
       let fits = o.fits in
       record {
-        fits = omega (arith, fits, all, count, within, high);
+        fits = omega (arith, fits);
         reads = λ i h.
-            let there : length u.text - kept + (at - (length u.text - kept) + i) ≡ at + i = omega (arith, high) in
+            let there : length u.text - kept + (at - (length u.text - kept) + i) ≡ at + i = omega arith in
             ap (slice_index (u.text ++ read)) (sym there)
-            ∙ sym (window_byte (at - (length u.text - kept) + i) (omega (arith, fits, h)))
+            ∙ sym (window_byte (at - (length u.text - kept) + i) (omega arith))
             ∙ o.reads i h;
       }
 
@@ -159,28 +128,23 @@ module _ {before after : Option (List ℕ)} {asked : Asked} {sought : Sought} {b
       let within = u.are_kept.within in
       let fits = o.fits in
       record {
-        fits = omega (arith, fits, all, count, within, high);
+        fits = omega (arith, fits);
         reads = λ i h.
-            let there : length u.text - kept + (at - (length u.text - kept) + i) ≡ at + i = omega (arith, high) in
-            window_byte (at - (length u.text - kept) + i) (omega (arith, fits, h, all, count, within, high))
+            let there : length u.text - kept + (at - (length u.text - kept) + i) ≡ at + i = omega arith in
+            window_byte (at - (length u.text - kept) + i) (omega (arith, fits, h))
             ∙ ap (slice_index (u.text ++ read)) there ∙ o.reads i h;
       }
 
   -- the same of the text before
   from_old : (at : ℕ) → OccursAt u.text asked.literal at → OccursAt (u.text ++ read) asked.literal at
   from_old at o =
-      let all = longer_len in
-      let fits = o.fits in
-      record {
-        fits = omega (arith, fits, all);
-        reads = λ i h. old_byte (at + i) (omega (arith, fits, h)) ∙ o.reads i h;
-      }
+      grind (arith, common_steps)
 
   in_old : (at : ℕ) → at + length asked.literal ≤ length u.text → OccursAt (u.text ++ read) asked.literal at
       → OccursAt u.text asked.literal at
   in_old at fits o = record {
     fits = fits;
-    reads = λ i h. sym (old_byte (at + i) (omega (arith, fits, h))) ∙ o.reads i h;
+    reads = λ i h. sym (old_byte (at + i) (omega arith)) ∙ o.reads i h;
   }
 
   abbrev IsFound : Option ℕ → Type 0
@@ -192,10 +156,8 @@ module _ {before after : Option (List ℕ)} {asked : Asked} {sought : Sought} {b
       → asked.start ≤ at → at + length asked.literal ≤ asked.end → at < length u.text - kept
       → OccursAt (u.text ++ read) asked.literal at → ⊥
   none_before none at low high before o =
-      let count = u.is_sought.count in
-      let enough = u.are_kept.enough in
-      let fits : at + length asked.literal ≤ length u.text = omega (arith, before, enough) in
-      none at low (omega (arith, high, fits, count)) (in_old at fits o)
+      let fits : at + length asked.literal ≤ length u.text = omega arith in
+      none at low (omega arith) (in_old at fits o)
 
   -- it was found before
   found_before : (place : ℕ) → IsFirstPlace u.text asked.literal asked.start (min asked.end sought.len) (Some place)
@@ -205,9 +167,9 @@ module _ {before after : Option (List ℕ)} {asked : Asked} {sought : Sought} {b
       let fits = is.1.fits in (
         record {
           low = is.0.low;
-          high = omega (arith, high);
+          high = omega arith;
           before = λ at low h o.
-              is.0.before at low h (in_old at (omega (arith, h, fits)) o);
+              is.0.before at low h (in_old at (omega arith) o);
         },
         from_old place is.1,
       )
@@ -217,41 +179,35 @@ module _ {before after : Option (List ℕ)} {asked : Asked} {sought : Sought} {b
       → IsFirstPlace u.text asked.literal asked.start (min asked.end sought.len) None
       → IsFirstShown window asked.literal (sought.len - kept) asked.start asked.end place → IsFound place
   found_now None none shown = λ at low high o.
-      let count = u.is_sought.count in
-      let many = shows.count in
-      let within = u.are_kept.within in
       ⊎_elim
-      (λ (before : at < length u.text - kept). none_before none at low (omega (arith, high)) before o)
+      (λ (before : at < length u.text - kept). none_before none at low (omega arith) before o)
       (λ (after : length u.text - kept ≤ at).
-      let here : length u.text - kept ≡ sought.len - kept = omega (arith, count) in
-      shown at low (omega (arith, high, many, count, within)) (
-        omega (arith, after, count),
+      let here : length u.text - kept ≡ sought.len - kept = omega arith in
+      shown at low (omega arith) (
+        omega arith,
         subst (λ (b : ℕ). OccursAt window asked.literal (at - b)) here (in_window at after o),
       ))
       (cases_lt at (length u.text - kept))
   found_now (Some place) none shown =
-      let count = u.is_sought.count in
-      let many = shows.count in
-      let within = u.are_kept.within in
       let low = shown.1.0 in
       let high = shown.0.high in
-      let here : sought.len - kept ≡ length u.text - kept = omega (arith, count) in
+      let here : sought.len - kept ≡ length u.text - kept = omega arith in
       let there = subst (λ (b : ℕ). OccursAt window asked.literal (place - b)) here shown.1.1 in (
         record {
           low = shown.0.low;
-          high = omega (arith, high, many, count, within);
+          high = omega arith;
           before = λ at first h o.
               ⊎_elim
               (λ (before : at < length u.text - kept).
-              none_before none at first (omega (arith, h, high)) before o)
+              none_before none at first (omega arith) before o)
               (λ (after : length u.text - kept ≤ at).
               shown.0.before at first h (
-                omega (arith, after, count),
+                omega arith,
                 subst (λ (b : ℕ). OccursAt window asked.literal (at - b)) (sym here) (in_window at after o),
               ))
               (cases_lt at (length u.text - kept));
         },
-        from_window place (omega (arith, low, count)) there,
+        from_window place (omega arith) there,
       )
 
   pub found_next : (place : Option ℕ)
@@ -276,7 +232,6 @@ module _ {before after : Option (List ℕ)} {asked : Asked} {sought : Sought} {b
   read_more {now} taken place found buffer' kept' kept_is last =
       let all = longer_len in
       let count = u.is_sought.count in
-      let many = shows.count in
       let within = u.are_kept.within in
       let enough = u.are_kept.enough in
       record {
@@ -284,13 +239,13 @@ module _ {before after : Option (List ℕ)} {asked : Asked} {sought : Sought} {b
         taken = consumes_more before after now u.text read u.taken taken;
         is_sought = record { count = all ∙ ap (λ (k : ℕ). k + length read) count; bytes = bytes; first = found };
         are_kept = record {
-          enough = omega (arith, all, kept_is, enough, within);
-          few = omega (arith, kept_is);
-          within = omega (arith, all, kept_is, within);
+          enough = omega arith;
+          few = omega arith;
+          within = omega arith;
           last = λ i h.
               let there : length u.text - kept + (kept + length read - kept' + i)
-              ≡ length (u.text ++ read) - kept' + i = omega (arith, all, within, kept_is) in
-              last i h ∙ window_byte (kept + length read - kept' + i) (omega (arith, many, h, kept_is))
+              ≡ length (u.text ++ read) - kept' + i = omega arith in
+              last i h ∙ window_byte (kept + length read - kept' + i) (omega arith)
               ∙ ap (slice_index (u.text ++ read)) there;
         };
       }

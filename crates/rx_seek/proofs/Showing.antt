@@ -1,8 +1,9 @@
 -- Literals in the part of a window that belongs to a span.
-use Rattle.rx_spec.proofs.Prelude.{◌≡◌, ℕ, ◌+◌, ◌-◌, ◌<◌, ◌≤◌, min, List, length, take, drop, slice_index, Option, Some}
-use Rattle.rx_spec.proofs.Prelude.{None, ap, sym, ◌∙◌, subst, arith, refl, false, is_some}
+use Rattle.std.proofs.lemmas.Grind.{common_steps}
+use Rattle.rx_spec.proofs.Prelude.{◌≡◌, ℕ, ◌+◌, ◌-◌, ◌<◌, ◌≤◌, min, List, length, take, drop, Option, Some, None, sym}
+use Rattle.rx_spec.proofs.Prelude.{subst, arith, refl, false, is_some}
 use Rattle.memchr.specs.Find.{FindsNeedle, OccursAt}
-use Rattle.rx_prefilter.proofs.Occurring.{piece_at, piece_len}
+use Rattle.rx_prefilter.proofs.Occurring.{piece_len}
 use Rattle.rx_seek.specs.Seeking.{IsFirstShown}
 
 pub not_some : (known : Option ℕ) → is_some known ≡ false → known ≡ None
@@ -16,10 +17,10 @@ pub record IsPart (window : List ℕ) (base start end low high : ℕ) : Type 0 w
 
 module _ {window : List ℕ} {base start end low high : ℕ} (part : IsPart window base start end low high) where
   order : low ≤ high
-  order = let low_is = part.low_is in omega (arith, low_is)
+  order = let low_is = part.low_is in omega arith
 
   fits : high ≤ length window
-  fits = let high_is = part.high_is in omega (arith, high_is)
+  fits = let high_is = part.high_is in omega arith
 
 module _ {window literal : List ℕ} {base start end low high : ℕ} (part : IsPart window base start end low high)
     (some : 0 < length literal) where
@@ -27,30 +28,12 @@ module _ {window literal : List ℕ} {base start end low high : ℕ} (part : IsP
   in_part : (at : ℕ) → start ≤ base + at → at + length literal ≤ high → OccursAt window literal at
       → OccursAt (take (high - low) (drop low window)) literal (at - low)
   in_part at first within o =
-      let low_is = part.low_is in
-      let n = piece_len window literal (order part) (fits part) in
-      record {
-        fits = omega (arith, n, within, low_is, first);
-        reads = λ i h.
-            let there : low + (at - low + i) ≡ at + i = omega (arith, low_is, first) in
-            piece_at window literal (order part) (fits part) (at - low + i) (omega (arith, h, within, low_is, first))
-            ∙ ap (slice_index window) there ∙ o.reads i h;
-      }
+      grind (arith, common_steps)
 
   from_part : (place : ℕ) → OccursAt (take (high - low) (drop low window)) literal place
       → OccursAt window literal (low + place)
   from_part place o =
-      let n = piece_len window literal (order part) (fits part) in
-      let within = o.fits in
-      let all = fits part in
-      record {
-        fits = omega (arith, within, n, all, some);
-        reads = λ i h.
-            let there : low + (place + i) ≡ low + place + i = omega arith in
-            ap (slice_index window) (sym there)
-            ∙ sym (piece_at window literal (order part) (fits part) (place + i) (omega (arith, within, h, n)))
-            ∙ o.reads i h;
-      }
+      grind (arith, common_steps)
 
   pub none_shown : FindsNeedle (take (high - low) (drop low window)) literal 0 None
       → IsFirstShown window literal base start end None
@@ -58,10 +41,9 @@ module _ {window literal : List ℕ} {base start end low high : ℕ} (part : IsP
       let low_is = part.low_is in
       let high_is = part.high_is in
       let n = piece_len window literal (order part) (fits part) in
-      let before = o.0 in
-      let within : at - base + length literal ≤ high = omega (arith, high_is, last, before, some) in
-      none (at - base - low) (omega arith) (omega (arith, n, within, some))
-      (in_part (at - base) (omega (arith, first, before)) within o.1)
+      let within : at - base + length literal ≤ high = omega arith in
+      none (at - base - low) (omega arith) (omega arith)
+      (in_part (at - base) (omega arith) within o.1)
 
   pub first_shown : (place : ℕ) → FindsNeedle (take (high - low) (drop low window)) literal 0 (Some place)
       → IsFirstShown window literal base start end (Some (base + low + place))
@@ -72,12 +54,12 @@ module _ {window literal : List ℕ} {base start end low high : ℕ} (part : IsP
       let within = is.1.fits in
       let there : base + low + place - base ≡ low + place = omega arith in (
         record {
-          low = omega (arith, low_is, within, n, some);
-          high = omega (arith, high_is, within, n, some);
+          low = omega arith;
+          high = omega arith;
           before = λ at first h o.
               let before = o.0 in
-              is.0.before (at - base - low) (omega arith) (omega (arith, h, before, low_is, first, within, n, some))
-              (in_part (at - base) (omega (arith, first, before)) (omega (arith, h, within, n, before, some)) o.1);
+              is.0.before (at - base - low) (omega arith) (omega (arith, h, before, low_is))
+              (in_part (at - base) (omega arith) (omega (arith, h)) o.1);
         },
         (omega arith, subst (OccursAt window literal) (sym there) (from_part place is.1)),
       )

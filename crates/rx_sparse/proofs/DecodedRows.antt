@@ -13,10 +13,6 @@ use Rattle.rx_sparse.specs.Rows.{next_among, no_range, patterns_in, patterns_len
 abbrev pub ranges_from : Order → (ends ids : List ℕ) → (count place : ℕ) → List ClassRange
 ranges_from order ends ids count place = map (range_in order ends ids) (range_with_len place (count - place))
 
-pub ranges-first : (order : Order) (ends ids : List ℕ) (count : ℕ)
-    → map (range_in order ends ids) (range_with_len 0 count) ≡ ranges_from order ends ids count 0
-ranges-first order ends ids count = grind (arith, common_steps)
-
 ranges-next : (order : Order) (ends ids : List ℕ) (count place : ℕ) → place < count
     → ranges_from order ends ids count place
     ≡ range_in order ends ids place ∷ ranges_from order ends ids count (place + 1)
@@ -53,8 +49,7 @@ module _ (order : Order) (rest : List ℕ) (i : ℕ) where
   -- the word of a pattern stands behind their count
   word_behind : word_at order rest (i + 1) ≡ word_at order (drop 4 rest) i
   word_behind =
-      let place : 4 * (i + 1) ≡ 4 + 4 * i = omega arith in
-      ap (λ n. number order w32 (take 4 (drop n rest))) place
+      ap (λ n. number order w32 (take 4 (drop n rest))) (omega arith)
       ∙ ap (λ t. number order w32 (take 4 t)) (sym (drop-drop (4 * i) 4 rest))
 
   module _ (is_match : Bool) (h : i < length (patterns_in order is_match rest)) where

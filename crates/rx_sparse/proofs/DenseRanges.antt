@@ -103,7 +103,6 @@ module _ (next_ids : List ℕ) where
       × ((k : ℕ) → f ≤ k → k ≤ c → id_at k ≡ id_at c)
   begin_of zero = grind (arith, common_steps)
   begin_of (suc c) =
-      let back : suc c - 1 ≡ c = omega arith in
       ⊎_elim
       (λ (e : id_at c ≡ id_at (suc c)).
       let before = begin_of c in
@@ -115,7 +114,7 @@ module _ (next_ids : List ℕ) where
       (before.0, (let low = before.1 in omega arith), before.2, goes))
       (λ (ne : id_at c ≡ id_at (suc c) → ⊥).
       let other : (id_at (suc c - 1) == id_at (suc c)) ≡ false =
-      ap (λ b. id_at b == id_at (suc c)) back ∙ ne_eqb _ _ ne in
+      ap (λ b. id_at b == id_at (suc c)) (omega arith) ∙ ne_eqb _ _ ne in
       let begins : begins_range next_ids (suc c) ≡ true =
       ap₂ (λ (x y : Bool). x || not y) (ne_eqb (suc c) 0 (λ z. omega arith)) other in
       let alone : (k : ℕ) → suc c ≤ k → k ≤ suc c → id_at k ≡ id_at (suc c) =
@@ -133,11 +132,10 @@ module _ (next_ids : List ℕ) where
   unfolding next_among
   found [] c v all some = grind (arith, common_steps)
   found (f ∷ fs) c v all some =
-      let rest : ℕ = next_among (map (range_of next_ids) fs) c in
       by_test (has_class c (range_of next_ids f))
       (λ yes. rw yes (all f (Contains-here f fs) yes))
       (λ no.
-      ap (λ b. cond b (id_at f) rest) no
+      ap (λ b. cond b (id_at f) (next_among (map (range_of next_ids) fs) c)) no
       ∙ found fs c v (λ g has. all g (Contains-there f fs g has))
       (⊎_elim
       (λ (one : (g : ℕ) × Contains (f ∷ fs) g × (has_class c (range_of next_ids g) ≡ true)).
@@ -163,13 +161,12 @@ module _ (next_ids : List ℕ) where
       (λ (live : id_at c ≡ 0 → ⊥).
       let run = begin_of c in
       let f : ℕ = run.0 in
-      let upto = run.1 in
-      let same : id_at f ≡ id_at c = run.3 f (omega arith) upto in
+      let same : id_at f ≡ id_at c = run.3 f (omega arith) run.1 in
       let is_live_there : is_live next_ids f ≡ true = ap not (ne_eqb _ _ (λ z. live (sym same ∙ z))) in
       let kept : is_first f ≡ true = ap₂ (λ (x y : Bool). x && y) run.2 is_live_there in
       let has : Contains firsts f =
       filter_keeps is_first (range_with_len 0 eoi) f (range_has 0 eoi f (omega arith) (omega arith)) kept in
-      let beyond = goes_on f (first_low f has) c upto h run.3 in
+      let beyond = goes_on f (first_low f has) c run.1 h run.3 in
       let low : nat_le f c ≡ true = grind (arith, nat_tests) in
       let high : nat_le c (range_end next_ids f - 1) ≡ true = grind (arith, nat_tests) in
       inl (f, has, ap₂ (λ (x y : Bool). x && y) low high))

@@ -3,7 +3,7 @@ use Rattle.rx_spec.proofs.Prelude.{common_steps, flat_map-append, ◌≡◌, ℕ
 use Rattle.rx_spec.proofs.Prelude.{◌++◌, length, map, slice_index, refl, ap, sym, ◌∙◌, arith, append_assoc, flat_map}
 use Rattle.rx_spec.proofs.Prelude.{eqb-true, nat_tests, append-nil}
 use Rattle.rx_spec.specs.declared.Unit.{Unit as U}
-use Rattle.rx_dense.specs.States.{eoi_range_from, is_live, ranges_from, sparse_transitions_from}
+use Rattle.rx_dense.specs.States.{is_live, sparse_transitions_from}
 use Rattle.rx_dense.specs.States as dense
 use Rattle.rx_sparse.specs.declared.ranges.ClassRange.{ClassRange}
 use Rattle.rx_sparse.specs.Reading.{class_of}
@@ -61,14 +61,8 @@ module _ (next_ids : List ℕ) where
   in_ranges [] = refl
   in_ranges (first ∷ firsts) = ap (λ rs. range_of next_ids first ∷ rs) (in_ranges firsts)
 
-  from_zero : ranges_in (ranges_from next_ids 0) ≡ ranges_of next_ids
-  from_zero = grind (arith, common_steps, in_ranges)
-
   abbrev mark : Bool → List (U × U × ℕ)
   mark live = cond live ((U.Eoi, U.Eoi, slice_index next_ids eoi) ∷ []) []
-
-  mark_is : eoi_range_from next_ids 0 ≡ mark (is_live next_ids eoi)
-  mark_is = grind (arith, common_steps, nat_tests)
 
   no_ranges : (live : Bool) → ranges_in (mark live) ≡ []
   no_ranges true = refl
@@ -84,4 +78,4 @@ module _ (next_ids : List ℕ) where
   passed e (first ∷ firsts) rest = passed e firsts rest
 
   pub read_first : AreRead next_ids [] 0 (sparse_transitions_from next_ids 0)
-  read_first = grind (arith, common_steps, flat_map-append, mark_is, no_ranges, append-nil, from_zero, passed, marked)
+  read_first = grind (arith, common_steps, flat_map-append, nat_tests, no_ranges, append-nil, in_ranges, passed, marked)

@@ -3,18 +3,15 @@ use Rattle.rx_spec.proofs.Prelude.{common_steps, ◌≡◌, ℕ, zero, suc, ◌+
 use Rattle.rx_spec.proofs.Prelude.{length, take, drop, get_or, slice_index, refl, ap, sym, ◌∙◌, subst, arith, ◌==◌}
 use Rattle.rx_spec.proofs.Prelude.{Bool, true, false, cond, ⊎_elim, inl, inr, cases_eq, cases_lt, ne_eqb, drop-drop}
 use Rattle.rx_spec.proofs.Prelude.{drop_at, get_or-map-range_with_len, length-map-range_with_len, div-add-mod', max_id}
-use Rattle.rx_spec.proofs.Prelude.{id_of, row_of, Anchored}
-use Rattle.rx_spec.specs.declared.Start.{Start}
+use Rattle.rx_spec.proofs.Prelude.{id_of, row_of}
 use Rattle.lemmas_tables.proofs.Ids.{row_of-id_of}
-use Rattle.rx_dense.specs.Layouts.{context_number, mode_place}
 use Rattle.rx_search.specs.Starts.{IsId}
-use Rattle.rx_dense.proofs.Rows.{id_at_row, place_within}
+use Rattle.rx_dense.proofs.Rows.{id_at_row}
 use Rattle.rx_wire.specs.declared.order.Order.{Order}
 use Rattle.rx_sparse.specs.declared.ranges.ClassRange.{ClassRange}
 use Rattle.rx_sparse.specs.Rows.{Row, has_class, next_among, next_ids, no_range, no_row, offsets, row_in, row_len}
 use Rattle.rx_sparse.specs.Rows.{row_text, rows_in, rows_len, rows_text, word_at, words_in}
-use Rattle.rx_sparse.specs.Layouts.{AreStarts, IsRow, IsShaped, Layout, ids_of, memory_usage, next_id, row_at}
-use Rattle.rx_sparse.specs.Layouts.{row_count}
+use Rattle.rx_sparse.specs.Layouts.{IsRow, IsShaped, Layout, ids_of, memory_usage, next_id, row_at}
 use Rattle.rx_sparse.specs.Parts.{AreParts, FitsBytes, IsWholeRow, stored}
 use Rattle.rx_sparse.specs.declared.parts.Parts.{Parts}
 use Rattle.rx_sparse.specs.Facts.{length-offsets, offset_at, offsets_are_ids, rows_len-more}
@@ -35,9 +32,8 @@ row_in-there order zero bytes row h = elim h [ ]
 row_in-there order (suc count) bytes zero h = refl
 row_in-there order (suc count) bytes (suc row) h =
     let len : ℕ = row_len (row_in order bytes) in
-    let rest : List Row = rows_in order count (drop len bytes) in
     row_in-there order count (drop len bytes) row (omega arith)
-    ∙ ap (row_in order) (drop-drop (rows_len (take row rest)) len bytes)
+    ∙ ap (row_in order) (drop-drop (rows_len (take row (rows_in order count (drop len bytes)))) len bytes)
 
 -- the text of all rows, from one on
 pub text_from : (order : Order) (rows : List Row) (row : ℕ) → row < length rows
@@ -47,10 +43,9 @@ unfolding rows_len
 text_from order [] row h = elim h [ ]
 text_from order (r ∷ rows) zero h = refl
 text_from order (r ∷ rows) (suc row) h =
-    let text : List ℕ = row_text order r in
     let rest : List ℕ = rows_text order rows in
-    sym (drop-drop (rows_len (take row rows)) (row_len r) (text ++ rest))
-    ∙ ap (drop (rows_len (take row rows))) (drop_at text rest (row_len r) (length-row order r))
+    sym (drop-drop (rows_len (take row rows)) (row_len r) ((row_text order r) ++ rest))
+    ∙ ap (drop (rows_len (take row rows))) (drop_at (row_text order r) rest (row_len r) (length-row order r))
     ∙ text_from order rows row (omega arith)
     ∙ ap (λ n. row_text order (get_or rows row no_row) ++ rows_text order (drop n (r ∷ rows)))
     (let e : suc (row + 1) ≡ suc row + 1 = omega arith in e)
@@ -94,13 +89,11 @@ unit_leads P dead row nexts eoi classes unit =
 module _ (l : Layout) (shaped : IsShaped l) where
   pub id_few : (id : ℕ) → IsId (ids_of l) id → id ≤ rows_len l.rows
   id_few id is =
-      let n = length-offsets 0 l.rows in
-      let row : ℕ = row_of (ids_of l) id in
       omega (
         arith,
         id_at_row (ids_of l) id is,
-        offset_at 0 l.rows row (omega arith),
-        rows_len-take l.rows row,
+        offset_at 0 l.rows (row_of (ids_of l) id) (omega (arith, length-offsets 0 l.rows)),
+        rows_len-take l.rows (row_of (ids_of l) id),
       )
 
   pub id_small : (id : ℕ) → IsId (ids_of l) id → id ≤ max_id
@@ -185,17 +178,11 @@ module _ (p : Parts) (rows starts : List ℕ) (are : AreParts p rows starts) whe
 -- ---- start entries and sizes
 
 module _ (p : Parts) (rows starts : List ℕ) (are : AreParts p rows starts) where
-  starts_count : length (words_in p.order (length starts / 4) starts) ≡ length starts / 4
+  pub starts_count : length (words_in p.order (length starts / 4) starts) ≡ length starts / 4
   starts_count = length-map-range_with_len (word_at p.order starts) 0 (length starts / 4)
-
-  pub start_len_is : length starts / 4 ≡ length (layout p rows starts are).starts
-  start_len_is = sym starts_count
 
   pub memory_is : length rows + length starts ≡ memory_usage (layout p rows starts are)
   memory_is = grind (arith, common_steps, rows_size, starts_count, div-add-mod')
-
-  pub state_len_is : p.state_len ≡ row_count (layout p rows starts are)
-  state_len_is = sym (length-rows_in p.order p.state_len rows)
 
   module _ (i : ℕ) (h : i < length (layout p rows starts are).starts) where
     low : i < length starts / 4
@@ -240,20 +227,14 @@ dead_kind rows id is =
 -- ---- next rows and start rows
 
 module _ (l : Layout) (shaped : IsShaped l) where
-  ids_count : length (ids_of l) ≡ length l.rows
-  ids_count = length-offsets 0 l.rows
-
   pub zero_is_id : IsId (ids_of l) 0
-  zero_is_id = grind (arith, common_steps, zero_row, ids_count)
-
-  row_within : (id : ℕ) → IsId (ids_of l) id → row_of (ids_of l) id < length l.rows
-  row_within id is = omega (arith, ids_count, is)
+  zero_is_id = grind (arith, common_steps, zero_row, length-offsets 0 l.rows)
 
   pub next_is_id : (id class : ℕ) → IsId (ids_of l) id
       → IsId (ids_of l) (next_among (row_at l (row_of (ids_of l) id)).ranges class)
   next_is_id id class is =
       among (IsId (ids_of l)) zero_is_id (row_at l (row_of (ids_of l) id)).ranges class
-      (shaped.rows.rows (row_of (ids_of l) id) (row_within id is)).nexts
+      (shaped.rows.rows (row_of (ids_of l) id) (omega (arith, length-offsets 0 l.rows, is))).nexts
 
   pub next_row_is_id : (row unit : ℕ) → row < length l.rows → IsId (ids_of l) (next_id l.classes (row_at l row) unit)
   next_row_is_id row unit h =
@@ -261,14 +242,9 @@ module _ (l : Layout) (shaped : IsShaped l) where
       unit_leads (IsId (ids_of l)) zero_is_id (row_at l row) is.nexts is.eoi l.classes unit
 
   pub eoi_is_id : (id : ℕ) → IsId (ids_of l) id → IsId (ids_of l) (row_at l (row_of (ids_of l) id)).eoi
-  eoi_is_id id is = (shaped.rows.rows (row_of (ids_of l) id) (row_within id is)).eoi
+  eoi_is_id id is = (shaped.rows.rows (row_of (ids_of l) id) (omega (arith, length-offsets 0 l.rows, is))).eoi
 
 -- a byte is no end mark
 pub next_on_byte : (classes : List ℕ) (row : Row) (byte : ℕ) → byte < 256
     → next_among row.ranges (slice_index classes byte) ≡ next_id classes row byte
 next_on_byte classes row byte h = grind (arith, common_steps, ne_eqb)
-
--- the six entries of a mode are there where the first is
-pub entry_there : (l : Layout) → AreStarts l → (mode : Anchored) (start : Start) → mode_place mode < length l.starts
-    → mode_place mode + context_number start < length l.starts
-entry_there l starts mode start h = grind (arith, common_steps, place_within)

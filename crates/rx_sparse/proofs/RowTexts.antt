@@ -12,8 +12,8 @@ use Rattle.rx_wire.proofs.Words.{length-words, word_alone, words_again}
 use Rattle.rx_sparse.specs.declared.ranges.ClassRange.{ClassRange}
 use Rattle.rx_sparse.specs.Rows.{Row, behind_ends, count_in, ends_in, ends_text, head_number, is_match_in, is_some_list}
 use Rattle.rx_sparse.specs.Rows.{next_ids, needles_in, next_ids_in, no_range, no_row, patterns_in, patterns_len}
-use Rattle.rx_sparse.specs.Rows.{patterns_text, range_in, rest_in, row_in, row_len, row_of_parts, row_text, rows_in}
-use Rattle.rx_sparse.specs.Rows.{rows_len, rows_text, word_at, words_in, words_text}
+use Rattle.rx_sparse.specs.Rows.{patterns_text, range_in, rest_in, row_in, row_len, row_text, rows_in, rows_len}
+use Rattle.rx_sparse.specs.Rows.{rows_text, word_at, words_in, words_text}
 use Rattle.rx_sparse.specs.Parts.{FitsBytes, IsDecoded, IsWholeRow}
 
 -- ---- lengths
@@ -145,14 +145,11 @@ module _ (order : Order) (row : Row) (rest : List ℕ) (fits : FitsBytes row) wh
   pub matches_is : is_match_in order text ≡ some
   matches_is = ap (nat_le 32768) head_is ∙ told count some few
 
-  behind_head : drop 2 text ≡ ends_text row.ranges ++ (ids ++ behind)
-  behind_head = grind (arith, common_steps, by_one, drop_at, length-field_16)
-
   pub ends_is : ends_in order text ≡ ends_text row.ranges
-  ends_is = grind (arith, common_steps, count_is, behind_head, take_at, length-ends)
+  ends_is = grind (arith, common_steps, count_is, by_one, drop_at, length-field_16, take_at, length-ends)
 
   ids_there : behind_ends order text ≡ ids ++ behind
-  ids_there = grind (arith, common_steps, count_is, behind_head, drop_at, length-ends)
+  ids_there = grind (arith, common_steps, count_is, by_one, length-field_16, drop_at, length-ends)
 
   length-ids : length ids ≡ 4 * count
   length-ids = omega (arith, length-words order (next_ids row), length-next_ids row)
@@ -229,19 +226,22 @@ module _ (order : Order) (row : Row) (rest : List ℕ) (fits : FitsBytes row) wh
       ≡ length row.needles ∷ (row.needles ++ rest)
   needles_there = grind (arith, common_steps, patterns_end, drop_at, length-patterns)
 
-  parts_again : row_of_parts order (is_some_list row.patterns) (ends_text row.ranges) next_words read_behind ≡ row
-  parts_again = grind (arith, common_steps, ranges_are, eoi_is, patterns_are, needles_there, needles_read)
-
   -- a row is read back, whatever follows
   pub row_again : row_in order (row_text order row ++ rest) ≡ row
-  row_again = grind (arith, common_steps, matches_is, ends_is, ids_is, rest_is, parts_again)
-
-  needle_count : slice_index read_behind (patterns_len order (is_some_list row.patterns) read_behind)
-      ≡ length row.needles
-  needle_count = grind (arith, common_steps, patterns_end, length-patterns, get_or-append-add)
-
-  length-read_behind : length read_behind ≡ patterns_size row.patterns + 1 + length row.needles + length rest
-  length-read_behind = grind (arith, common_steps, length-append, length-patterns)
+  row_again =
+      grind (
+        arith,
+        common_steps,
+        matches_is,
+        ends_is,
+        ids_is,
+        rest_is,
+        ranges_are,
+        eoi_is,
+        patterns_are,
+        needles_there,
+        needles_read,
+      )
 
   parts_decoded : IsDecoded order (is_some_list row.patterns) (ends_text row.ranges) next_words read_behind
   parts_decoded =
@@ -252,8 +252,9 @@ module _ (order : Order) (row : Row) (rest : List ℕ) (fits : FitsBytes row) wh
         length-words,
         length-next_ids,
         next_word,
-        needle_count,
-        length-read_behind,
+        length-patterns,
+        get_or-append-add,
+        length-append,
         patterns_end,
         few,
         patterns_are,

@@ -1,6 +1,6 @@
 -- A sparse table on its way: offsets and bytes of some rows of a dense table, where others are left.
-use Rattle.rx_spec.proofs.Prelude.{common_steps, ◌≡◌, ℕ, ◌+◌, ◌-◌, ◌*◌, ◌/◌, ◌^◌, ◌<◌, ◌≤◌, List, [], ◌∷◌, ◌++◌, length}
-use Rattle.rx_spec.proofs.Prelude.{map, slice_index, take, Option, Some, None, refl, ap, ap₂, sym, ◌∙◌, subst, ⊎_elim}
+use Rattle.rx_spec.proofs.Prelude.{common_steps, ◌≡◌, ℕ, ◌+◌, ◌-◌, ◌/◌, ◌^◌, ◌<◌, ◌≤◌, List, [], ◌∷◌, ◌++◌, length, map}
+use Rattle.rx_spec.proofs.Prelude.{slice_index, take, Option, Some, None, refl, ap, ap₂, sym, ◌∙◌, subst, ⊎_elim}
 use Rattle.rx_spec.proofs.Prelude.{append_assoc, arith, option_map, cases_lt, append-nil, take_all, length-map, max_id}
 use Rattle.rx_spec.proofs.Prelude.{id_of, row_of, Anchored}
 use Rattle.rx_wire.specs.declared.order.Order.{Order}
@@ -24,9 +24,9 @@ use Rattle.rx_sparse.specs.Sparse.{AreSpecialRows, dense_rows, little_sparse_of,
 use Rattle.rx_sparse.specs.Sparse.{IsTooLong, sparse_len, sparse_of, universal_offset}
 use Rattle.rx_build_error.specs.declared.BuildErrorKind.{BuildErrorKind}
 use Rattle.rx_sparse.proofs.RowLengths.{row_len-patterns, rows_len-take}
-use Rattle.rx_sparse.proofs.RowPlaces.{fits_row, id_small}
+use Rattle.rx_sparse.proofs.RowPlaces.{fits_row, id_small, each_next}
 use Rattle.rx_sparse.proofs.RowTexts.{rows_again}
-use Rattle.rx_sparse.proofs.SparseShapes.{next_id_row, next_ids_few, sparse_shaped}
+use Rattle.rx_sparse.proofs.SparseShapes.{next_ids_few, sparse_shaped, range_id, eoi_id}
 use Rattle.rx_sparse.proofs.SparseTables.{offsets_count, rows_count}
 
 -- ---- the rows that are left
@@ -114,10 +114,6 @@ module _ (l : dense.Layout) (o : Offsets) (are : AreOffsets l o) where
   pub offset_same : (id : ℕ) → offset_in o id ≡ renamed_id l (offsets_of l) id
   offset_same id = ap₂ (λ (ids : List ℕ) (s : ℕ). slice_index ids (id / 2 ^ s)) are.ids are.stride2
 
-  row_same : (row : Row) → renamed_row (offset_in o) row ≡ renamed_row (renamed_id l (offsets_of l)) row
-  row_same row =
-      ap₂ (λ (ids : List ℕ) (s : ℕ). renamed_row (λ id. slice_index ids (id / 2 ^ s)) row) are.ids are.stride2
-
   pub offset_within : (id : ℕ) → IsRowId l id → id / 2 ^ o.stride2 < length o.ids.items
   offset_within id is = grind (arith, common_steps, row-below, offsets_count)
 
@@ -127,13 +123,11 @@ module _ (l : dense.Layout) (o : Offsets) (are : AreOffsets l o) where
   -- an offset is an id
   pub offset_small : (id : ℕ) → IsRowId l id → offset_in o id ≤ max_id
   offset_small id is =
-      let row : ℕ = id / stride l in
-      let below = row-below l id is in
       omega (
         arith,
         offset_same id,
-        offset_at 0 (dense_rows l) row (omega (arith, rows_count l are.rows)),
-        rows_len-take (dense_rows l) row,
+        offset_at 0 (dense_rows l) (id / stride l) (omega (arith, rows_count l are.rows, row-below l id is)),
+        rows_len-take (dense_rows l) (id / stride l),
         are.fits,
       )
 
@@ -178,7 +172,8 @@ module _ {l : dense.Layout} {o : Offsets} {bytes : List ℕ} {left rest : List s
     within = λ i h.
         offset_within l o are _
         (subst (λ (r : states.Row). IsRowId l (slice_index (next_ids (row_of_dense l r)) i)) (sym nearest.is)
-        (next_id_row l are.rows written.place nearest.below i
+        ((each_next (IsRowId l) (row_of_dense l (states.row_at l written.place))
+        (range_id l are.rows written.place nearest.below) (eoi_id l are.rows written.place nearest.below)) i
         (subst (λ (r : states.Row). i < length (next_ids (row_of_dense l r))) nearest.is h)));
   }
 
@@ -187,15 +182,16 @@ module _ {l : dense.Layout} {o : Offsets} {bytes : List ℕ} {left rest : List s
       → AreWritten l more rest
   one_written {more} e =
       let f : ℕ → ℕ = renamed_id l (offsets_of l) in
-      let text : List ℕ = row_text Order.Little (renamed_row f (row_of_dense l row)) in
       let others : List ℕ = rows_text Order.Little (map (renamed_row f) (map (row_of_dense l) rest)) in
       record {
         place = written.place + 1;
         left_is = nearest.rest_is;
         bytes_are =
             ap (λ xs. xs ++ others)
-            (e ∙ ap (λ r. bytes ++ row_text Order.Little r) (row_same l o are (row_of_dense l row)))
-            ∙ append_assoc bytes text others
+            (e ∙ ap (λ r. bytes ++ row_text Order.Little r)
+            (ap₂ (λ (ids : List ℕ) (s : ℕ). renamed_row (λ id. slice_index ids (id / 2 ^ s)) (row_of_dense l row))
+            are.ids are.stride2))
+            ∙ append_assoc bytes (row_text Order.Little (renamed_row f (row_of_dense l row))) others
             ∙ ap (λ rs. bytes ++ rows_text Order.Little (map (renamed_row f) (map (row_of_dense l) rs))) (sym some)
             ∙ written.bytes_are;
         room = omega (arith, room_for);
@@ -254,22 +250,19 @@ module _ (l : dense.Layout) (shaped : dense.IsShaped l) (sound : dense_facts.IsS
   abbrev sparse_rows : List Row
   sparse_rows = (sparse_of l).rows
 
-  count : length sparse_rows ≡ dense.row_count l
-  count = length-map (dense_rows l) (renamed_row (renamed_id l (offsets_of l))) ∙ rows_count l shaped.rows
-
   rows_back : rows_in Order.Little (dense.row_count l) rows ≡ sparse_rows
   rows_back =
-      ap₂ (λ n bytes. rows_in Order.Little n bytes) (sym count) rows_are
+      ap₂ (λ n bytes. rows_in Order.Little n bytes)
+      (sym (length-map (dense_rows l) (renamed_row (renamed_id l (offsets_of l))) ∙ rows_count l shaped.rows))
+      rows_are
       ∙ rows_again Order.Little sparse_rows
       (λ i h. fits_row (sparse_of l) (sparse_shaped l shaped sound special fits) i h)
-
-  starts_size : length starts ≡ 4 * length (sparse_of l).starts
-  starts_size = ap length starts_are ∙ length-words Order.Little (sparse_of l).starts
 
   starts_back : words_in Order.Little (length starts / 4) starts ≡ (sparse_of l).starts
   starts_back =
       let ids : List ℕ = (sparse_of l).starts in
-      let n : length starts / 4 ≡ length ids = omega (arith, starts_size) in
+      let n : length starts / 4 ≡ length ids =
+      omega (arith, ap length starts_are ∙ length-words Order.Little (sparse_of l).starts) in
       ap₂ (λ m bytes. words_in Order.Little m bytes) n (starts_are ∙ sym (append-nil (words_text Order.Little ids)))
       ∙ words_again Order.Little ids []
       (λ i h.
@@ -282,7 +275,7 @@ module _ (l : dense.Layout) (shaped : dense.IsShaped l) (sound : dense_facts.IsS
   pub parts_fit : AreParts (parts_of l) rows starts
   parts_fit = record {
     whole = ap (rows_text Order.Little) rows_back ∙ sym rows_are;
-    words = omega (arith, starts_size);
+    words = omega (arith, ap length starts_are ∙ length-words Order.Little (sparse_of l).starts);
     shaped = subst (λ (s : Stored). IsShaped s.layout) (sym stored_is) (sparse_shaped l shaped sound special fits);
   }
 

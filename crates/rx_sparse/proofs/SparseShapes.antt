@@ -12,12 +12,11 @@ use Rattle.rx_dense.specs.Facts as dense_facts
 use Rattle.rx_dense.specs.States as states
 use Rattle.rx_dense.proofs.Rows.{alphabet_few}
 use Rattle.rx_sparse.specs.declared.ranges.ClassRange.{ClassRange}
-use Rattle.rx_sparse.specs.Rows.{Row, is_some_list, next_ids as rows_next_ids, no_range}
+use Rattle.rx_sparse.specs.Rows.{Row, is_some_list, no_range}
 use Rattle.rx_sparse.specs.Layouts.{AreRanges, AreRows, AreStarts, IsRow, IsShaped, ids_of, row_at}
 use Rattle.rx_sparse.specs.Sparse.{AreSpecialRows, dense_rows, offsets_of, patterns_of_id, ranges_of, renamed_range}
 use Rattle.rx_sparse.specs.Sparse.{renamed_row, renamed_special, row_of_dense, sparse_len, sparse_of}
 use Rattle.rx_sparse.proofs.DenseRanges.{are_ranges, range_first, range_next}
-use Rattle.rx_sparse.proofs.RowPlaces.{each_next}
 use Rattle.rx_sparse.proofs.SparseTables.{id_there, ids_same, match_same, next_ids_count, next_is_row, renamed_is_id}
 use Rattle.rx_sparse.proofs.SparseTables.{row_there, rows_count, rows_len-renamed, universal_is_id}
 
@@ -71,17 +70,13 @@ module _ (l : dense.Layout) (rows : dense.AreRows l) (row : ℕ) (h : row < dens
   dense_ranges = are_ranges next_ids l.classes (sym next_ids_len) next_ids_few
 
   -- the ids to which a row leads
-  range_id : (i : ℕ) → i < length (ranges_of next_ids) → IsRowId l (get_or (ranges_of next_ids) i no_range).next
+  pub range_id : (i : ℕ) → i < length (ranges_of next_ids) → IsRowId l (get_or (ranges_of next_ids) i no_range).next
   range_id i b =
       subst (IsRowId l) (sym (range_next next_ids i b))
       (next_is_row l rows row h _ (omega (arith, range_first next_ids i b, next_ids_len)))
 
-  eoi_id : IsRowId l (slice_index next_ids (length next_ids - 1))
+  pub eoi_id : IsRowId l (slice_index next_ids (length next_ids - 1))
   eoi_id = next_is_row l rows row h (length next_ids - 1) (omega (arith, next_ids_len))
-
-  pub next_id_row : (i : ℕ) → i < length (rows_next_ids (row_of_dense l (states.row_at l row)))
-      → IsRowId l (slice_index (rows_next_ids (row_of_dense l (states.row_at l row))) i)
-  next_id_row = each_next (IsRowId l) (row_of_dense l (states.row_at l row)) range_id eoi_id
 
 -- ---- rows of a sound table
 
@@ -93,15 +88,13 @@ module _ (l : dense.Layout) (shaped : dense.IsShaped l) (sound : dense_facts.IsS
   abbrev patterns : List ℕ
   patterns = patterns_at l (place_in_range l l.special.min_match id)
 
-  match_label : is_match_id l.special id ≡ true → (dense.table_of l).machine.label row ≡ Label.Matches patterns
-  match_label e = grind (arith, common_steps)
-
   -- match rows, and no others, have patterns
   pub patterns_there : is_some_list (patterns_of_id l id) ≡ is_match_id l.special id
   patterns_there =
       by_test (is_match_id l.special id)
       (λ yes.
-      rw yes (some_list patterns (λ none. sound.is_table.lists row h (match_label yes ∙ ap Label.Matches none))))
+      rw yes (some_list patterns
+      (λ none. sound.is_table.lists row h ((grind (arith, common_steps)) ∙ ap Label.Matches none))))
       (λ no. rw no refl)
     where
       some_list : (ks : List ℕ) → (ks ≡ [] → ⊥) → is_some_list ks ≡ true
@@ -114,11 +107,11 @@ module _ (l : dense.Layout) (shaped : dense.IsShaped l) (sound : dense_facts.IsS
       (λ yes.
       rw yes
       (λ i b.
-      let few = shaped.lists.few_patterns in
       let low =
-      sound.patterns row patterns (slice_index patterns i) h (match_label yes) (Contains-get_or patterns i 0 b) in
+      sound.patterns row patterns (slice_index patterns i) h (grind (arith, common_steps))
+      (Contains-get_or patterns i 0 b) in
       omega arith))
-      (λ no. rw no (λ i b. absurd (omega arith)))
+      (λ no. rw no (λ i b. absurd (omega (arith, shaped.lists.few_patterns))))
 
   pub needles_few : length (dense.needles_of_id l id) ≤ 3
   needles_few =
@@ -179,30 +172,29 @@ module _ (l : dense.Layout) (shaped : dense.IsShaped l) (sound : dense_facts.IsS
   count : length (map (renamed_row renamed) (dense_rows l)) ≡ dense.row_count l
   count = length-map (dense_rows l) (renamed_row renamed) ∙ rows_count l table_rows
 
-  two_rows : 2 ≤ dense.row_count l
-  two_rows = le-div 2 (length l.words) (stride l) (pow_pos l.stride2) (let two = table_rows.two in two)
-
   are_rows : AreRows (sparse_of l)
   are_rows = record {
     classes = table_rows.classes;
-    two = omega (arith, count, two_rows);
+    two =
+        omega (
+          arith,
+          count,
+          le-div 2 (length l.words) (stride l) (pow_pos l.stride2)
+              (let two = table_rows.two in two),
+        );
     few = omega (arith, rows_len-renamed renamed (dense_rows l), fits);
     rows = λ row h. sparse_row row (omega (arith, count));
   }
-
-  starts_are : (k : ℕ) → k < length (map renamed l.starts)
-      → IsId (ids_of (sparse_of l)) (slice_index (map renamed l.starts) k)
-  starts_are k h =
-      let low : k < length l.starts = omega (arith, length-map l.starts renamed) in
-      subst (IsId (ids_of (sparse_of l))) (sym (get_or-map renamed l.starts k 0 0 low))
-      (is_id _ (shaped.starts.start_ids k low))
 
   are_starts : AreStarts (sparse_of l)
   are_starts = record {
     contexts = shaped.starts.contexts;
     count = length-map l.starts renamed ∙ shaped.starts.count;
     small = (let small = shaped.starts.small in omega (arith, length-map l.starts renamed));
-    start_ids = starts_are;
+    start_ids = λ k h.
+        let low : k < length l.starts = omega (arith, length-map l.starts renamed) in
+        subst (IsId (ids_of (sparse_of l))) (sym (get_or-map renamed l.starts k 0 0 low))
+        (is_id _ (shaped.starts.start_ids k low));
     universal_unanchored =
         subst (λ ids. IfSome (sparse_of l).universal_unanchored (IsId ids)) (sym (ids_same l table_rows))
         (universal_is_id l table_rows l.universal_unanchored);

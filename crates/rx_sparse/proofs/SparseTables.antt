@@ -1,7 +1,7 @@
 -- The sparse table of a dense one is the same table.
-use Rattle.rx_spec.proofs.Prelude.{common_steps, ◌≡◌, ℕ, ◌+◌, ◌-◌, ◌*◌, ◌/◌, ◌<◌, ◌≤◌, ◌==◌, ◌&&◌, Bool, true, false}
-use Rattle.rx_spec.proofs.Prelude.{not, nat_le, Option, Some, None, List, [], ◌∷◌, length, map, slice_index, drop, refl}
-use Rattle.rx_spec.proofs.Prelude.{ap, ap₂, sym, ◌∙◌, ◌⊎◌, inl, inr, subst, ⊎_elim, arith, length-drop, length-take-le}
+use Rattle.rx_spec.proofs.Prelude.{common_steps, ◌≡◌, ℕ, ◌+◌, ◌-◌, ◌*◌, ◌/◌, ◌<◌, ◌==◌, ◌&&◌, Bool, true, false, not}
+use Rattle.rx_spec.proofs.Prelude.{nat_le, Option, Some, None, List, [], ◌∷◌, length, map, slice_index, drop, refl, ap}
+use Rattle.rx_spec.proofs.Prelude.{ap₂, sym, ◌∙◌, ◌⊎◌, inl, inr, subst, ⊎_elim, arith, length-drop, length-take-le}
 use Rattle.rx_spec.proofs.Prelude.{if◌then◌else◌, nat_lt, option_map, IfSome, zero-div, cases_eq, cases_lt, eq-eqb}
 use Rattle.rx_spec.proofs.Prelude.{lt-ltb, le-ltb, ne_eqb, nat_tests, get_or-take, get_or-drop, get_or-map, length-map}
 use Rattle.rx_spec.proofs.Prelude.{get_or-map-range_with_len, length-map-range_with_len, pow_pos, row_fits, id_of}
@@ -55,21 +55,20 @@ eq_alike a b c d (inr (inr (p, q))) = grind (arith, nat_tests)
 -- ---- rows whose ids are renamed
 
 module _ (f : ℕ → ℕ) where
-  row_len-renamed : (row : Row) → row_len (renamed_row f row) ≡ row_len row
-  row_len-renamed row = omega (arith, length-map row.ranges (renamed_range f))
-
   pub offsets-renamed : (at : ℕ) (rows : List Row)
       → offsets_from at (map (renamed_row f) rows) ≡ offsets_from at rows
   unfolding offsets_from
   offsets-renamed at [] = refl
   offsets-renamed at (row ∷ rows) =
-      ap (λ n. at ∷ offsets_from (at + n) (map (renamed_row f) rows)) (row_len-renamed row)
+      ap (λ n. at ∷ offsets_from (at + n) (map (renamed_row f) rows))
+      (omega (arith, length-map row.ranges (renamed_range f)))
       ∙ ap (λ ids. at ∷ ids) (offsets-renamed (at + row_len row) rows)
 
   pub rows_len-renamed : (rows : List Row) → rows_len (map (renamed_row f) rows) ≡ rows_len rows
   unfolding rows_len
   rows_len-renamed [] = refl
-  rows_len-renamed (row ∷ rows) = ap₂ (λ m n. m + n) (row_len-renamed row) (rows_len-renamed rows)
+  rows_len-renamed (row ∷ rows) =
+      ap₂ (λ m n. m + n) (omega (arith, length-map row.ranges (renamed_range f))) (rows_len-renamed rows)
 
   -- dead stays dead
   module _ (dead : f 0 ≡ 0) where
@@ -91,9 +90,6 @@ module _ (l : dense.Layout) (rows : dense.AreRows l) where
 
   abbrev renamed : ℕ → ℕ
   renamed = renamed_id l offs
-
-  some : 0 < stride l
-  some = pow_pos l.stride2
 
   pub rows_count : length (dense_rows l) ≡ size
   rows_count = grind (arith, common_steps, length-map, length-map-range_with_len)
@@ -120,12 +116,9 @@ module _ (l : dense.Layout) (rows : dense.AreRows l) where
   pub renamed_back : (id : ℕ) → IsRowId l id → row_of offs (renamed id) ≡ id / stride l
   renamed_back id is = row_back (id / stride l) (row-below l id is)
 
-  some_rows : 0 < size
-  some_rows = grind (arith, common_steps, row-below, zero_is_row)
-
   first_offset : id_of offs 0 ≡ 0
   unfolding rows_len
-  first_offset = offset_at 0 (dense_rows l) 0 (omega (arith, rows_count, some_rows))
+  first_offset = offset_at 0 (dense_rows l) 0 (omega (arith, rows_count, row-below, zero_is_row))
 
   pub renamed_zero : renamed 0 ≡ 0
   renamed_zero = ap (slice_index offs) (zero-div (stride l)) ∙ first_offset
@@ -137,9 +130,7 @@ module _ (l : dense.Layout) (rows : dense.AreRows l) where
       AllPairs-from_increasing offs (offsets_are_ids (dense_rows l)).rising x y 0 less (omega (arith, offsets_count))
 
   wider : (x y : ℕ) → x < y → x * stride l < y * stride l
-  wider x y less =
-      let h : x * stride l + stride l ≤ y * stride l = row_fits x (stride l) y (stride l) less (omega arith) in
-      omega (arith, some)
+  wider x y less = omega (arith, pow_pos l.stride2, row_fits x (stride l) y (stride l) less (omega arith))
 
   -- rows lie as their ids do, and their offsets too
   lie_alike : (x y : ℕ) → x < size → y < size
@@ -150,8 +141,7 @@ module _ (l : dense.Layout) (rows : dense.AreRows l) where
         | inr le ↦ (elim (cases_eq x y) [
           | inl same ↦ (inr (inl (ap (id_of offs) same, ap (λ (n : ℕ). n * stride l) same)))
           | inr ne ↦ (
-              let above : y < x = omega (arith, le, ne) in
-              inr (inr (rises y x above hx, wider y x above)))
+              inr (inr (rises y x (omega (arith, le, ne)) hx, wider y x (omega (arith, le, ne)))))
         ])
       ]
 
@@ -300,9 +290,6 @@ module _ (l : dense.Layout) (rows : dense.AreRows l) where
 
   -- ---- start rows
 
-  zero_back : row_of offs 0 ≡ 0
-  zero_back = ap (row_of offs) (sym renamed_zero) ∙ renamed_back 0 zero_is_row ∙ zero-div (stride l)
-
   start_same : dense.AreStarts l → (mode : Anchored) (start : Start)
       → row_of offs (start_id (sparse_of l) mode start) ≡ dense.start_id l mode start / stride l
   start_same starts mode start =
@@ -311,13 +298,14 @@ module _ (l : dense.Layout) (rows : dense.AreRows l) where
       let count : length (map renamed l.starts) ≡ length l.starts = length-map l.starts renamed in
       elim (cases_lt place (length l.starts)) [
         | inl there ↦ (
-            let within = start_within l starts mode start there in
             let new : nat_lt place (length (map renamed l.starts)) ≡ true = lt-ltb _ _ (omega (arith, count, there)) in
-            rw (new, lt-ltb _ _ there, get_or-map renamed l.starts at 0 0 within)
-            (renamed_back (slice_index l.starts at) (starts.start_ids at within)))
+            rw (new, lt-ltb _ _ there, get_or-map renamed l.starts at 0 0 (start_within l starts mode start there))
+            (renamed_back (slice_index l.starts at) (starts.start_ids at (start_within l starts mode start there))))
         | inr none ↦ (
             let new : nat_lt place (length (map renamed l.starts)) ≡ false = le-ltb _ _ (omega (arith, count, none)) in
-            rw (new, le-ltb _ _ none) (zero_back ∙ sym (zero-div (stride l))))
+            rw (new, le-ltb _ _ none)
+            ((ap (row_of offs) (sym renamed_zero) ∙ renamed_back 0 zero_is_row ∙ zero-div (stride l)) ∙ sym
+            (zero-div (stride l))))
       ]
 
   universal_same : (kept : Option ℕ)
@@ -388,11 +376,10 @@ module _ {t u : Table} (same : AreSame t u) (is_table : IsTable t) where
       → run u.machine.next row word ≡ run t.machine.next row word
   run_same row [] h is = run-nil u.machine.next row ∙ sym (run-nil t.machine.next row)
   run_same row (unit ∷ word) h is =
-      let b : unit < 257 = IsWord-head unit word is in
       let next : ℕ = t.machine.next row unit in
       run-cons u.machine.next row unit word
-      ∙ ap (λ r. run u.machine.next r word) (sym (same.nexts row unit h b))
-      ∙ run_same next word (is_table.nexts row unit h b) (IsWord-tail unit word is)
+      ∙ ap (λ r. run u.machine.next r word) (sym (same.nexts row unit h (IsWord-head unit word is)))
+      ∙ run_same next word (is_table.nexts row unit h (IsWord-head unit word is)) (IsWord-tail unit word is)
       ∙ sym (run-cons t.machine.next row unit word)
 
   pub walks_same : (mode : Anchored) (start : Start) (word : List ℕ) → IsWord word

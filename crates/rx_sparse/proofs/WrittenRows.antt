@@ -1,19 +1,14 @@
 -- The bytes of a row, part behind part.
 use Rattle.rx_spec.proofs.Prelude.{common_steps, flat_map-append, ◌≡◌, ℕ, ◌<◌, ◌≤◌, List, [], ◌∷◌, ◌++◌, length, map}
-use Rattle.rx_spec.proofs.Prelude.{take, slice_index, get_or, Result, Ok, Err, true, false, refl, ap, append_assoc}
-use Rattle.rx_spec.proofs.Prelude.{arith, IfOk, if◌then◌else◌, w16, w32, append-nil, take_all, length-map, row_of}
-use Rattle.rx_spec.proofs.Prelude.{is_match}
+use Rattle.rx_spec.proofs.Prelude.{take, slice_index, get_or, Result, Ok, Err, refl, ap, append_assoc, arith, IfOk}
+use Rattle.rx_spec.proofs.Prelude.{if◌then◌else◌, w16, w32, append-nil, take_all, length-map}
 use Rattle.std.specs.Result.{is_ok}
 use Rattle.rx_wire.specs.declared.order.Order.{Order}
 use Rattle.rx_wire.specs.Fields.{field}
-use Rattle.rx_search.specs.Labels.{patterns_of}
-use Rattle.rx_search.specs.Starts.{IsId}
-use Rattle.rx_dense.specs.Layouts.{Layout, ids_of, table_of}
-use Rattle.rx_dense.proofs.RowKinds.{match_kind, match_patterns}
 use Rattle.rx_sparse.specs.declared.ranges.ClassRange.{ClassRange}
 use Rattle.rx_sparse.specs.Rows.{Row, ends_text, head_number, next_ids, no_range, patterns_text, row_text, words_text}
-use Rattle.rx_sparse.specs.Sparse.{patterns_of_id, renamed_range, renamed_row}
-use Rattle.rx_sparse.proofs.RowTexts.{eoi_there, next_there, pairs_text}
+use Rattle.rx_sparse.specs.Sparse.{renamed_range, renamed_row}
+use Rattle.rx_sparse.proofs.RowTexts.{next_there, pairs_text}
 
 -- ---- results
 
@@ -27,16 +22,6 @@ pub if_added : {A E : Type 0} (r : Result A E) {new want : List ℕ} (old xs : L
 if_added (Ok x) old xs e f = f e
 if_added (Err x) old xs e f = tt
 
--- ---- patterns
-
-pub patterns_read : (l : Layout) (id : ℕ) → IsId (ids_of l) id → is_match (table_of l) (row_of (ids_of l) id) ≡ true
-    → patterns_of (table_of l) (row_of (ids_of l) id) ≡ patterns_of_id l id
-patterns_read l id is e = grind (arith, common_steps, match_patterns, match_kind)
-
-pub no_patterns : (l : Layout) (id : ℕ) → IsId (ids_of l) id → is_match (table_of l) (row_of (ids_of l) id) ≡ false
-    → [] ≡ patterns_of_id l id
-no_patterns l id is e = grind (arith, common_steps, match_kind)
-
 -- ---- renamed rows
 
 module _ (f : ℕ → ℕ) where
@@ -49,9 +34,6 @@ module _ (f : ℕ → ℕ) where
 
   ends-renamed : (ranges : List ClassRange) → ends_text (map (renamed_range f) ranges) ≡ ends_text ranges
   ends-renamed ranges = ap (λ t. t ++ 0 ∷ 0 ∷ []) (pairs-renamed ranges)
-
-  head-renamed : (row : Row) → head_number (renamed_row f row) ≡ head_number row
-  head-renamed row = omega (arith, length-map row.ranges (renamed_range f))
 
   next-of-renamed : (ranges : List ClassRange) → map (λ r. r.next) (map (renamed_range f) ranges) ≡ map next_of ranges
   next-of-renamed [] = refl
@@ -77,7 +59,7 @@ module _ (f : ℕ → ℕ) where
       → e ≡ d ++ length row.needles ∷ [] → new ≡ e ++ row.needles
       → new ≡ old ++ row_text order (renamed_row f row)
   row-put order row old {a} {b} {c} {d} {e} {new} ha hb hc hd he hn =
-      grind (arith, common_steps, regroup, head-renamed, ends-renamed)
+      grind (arith, common_steps, regroup, length-map row.ranges (renamed_range f), ends-renamed)
 
 -- ---- ids
 
@@ -85,9 +67,6 @@ module _ (f : ℕ → ℕ) where
 pub range_id : (row : Row) (i : ℕ) → i < length row.ranges
     → slice_index (next_ids row) i ≡ (get_or row.ranges i no_range).next
 range_id row i h = next_there row.ranges (row.eoi ∷ []) i h
-
-pub eoi_id : (row : Row) → slice_index (next_ids row) (length row.ranges) ≡ row.eoi
-eoi_id row = eoi_there row.ranges row.eoi
 
 -- a row of its parts
 pub row_parts : {row : Row} {ranges : List ClassRange} {eoi : ℕ} {patterns needles : List ℕ} → ranges ≡ row.ranges

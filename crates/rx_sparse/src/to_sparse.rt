@@ -181,7 +181,7 @@ fn parts<T: WordStore>(dfa: &DenseDFA<T>, offsets: &Offsets) -> Parts
         order: Order::Little,
         flags: *dfa.flags(),
         classes: *dfa.byte_classes(),
-        pattern_len: pattern_len(dfa),
+        pattern_len: dfa.pattern_len(),
         state_len: dfa.state_len(),
         start_kind: dfa.start_kind(),
         contexts: contexts(dfa),
@@ -191,15 +191,6 @@ fn parts<T: WordStore>(dfa: &DenseDFA<T>, offsets: &Offsets) -> Parts
         special: special(dfa, offsets),
         quitset: *dfa.quitset(),
     }
-}
-
-/// The number of patterns, at most the number of ids, which the pattern lists need.
-fn pattern_len<T: WordStore>(dfa: &DenseDFA<T>) -> usize
-    ensures value { result ≡ dfa.now.pattern_len }
-    ensures lists { AreLists dfa.now }
-{
-    let _lists = dfa.slices();
-    dfa.pattern_len()
 }
 
 /// The start contexts of all bytes.

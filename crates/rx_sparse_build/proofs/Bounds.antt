@@ -4,7 +4,6 @@ use Rattle.rx_spec.proofs.Prelude.{common_steps, ◌≡◌, ℕ, suc, ◌+◌, �
 use Rattle.rx_spec.proofs.Prelude.{refl, ap, sym, ◌∙◌, arith, subst, ⊎_elim, sum_by, range_with_len, cases_lt}
 use Rattle.rx_spec.proofs.Prelude.{sum_by-cons, Build, Exceeds, max_id, label_total, sparse_bound, State, dead_state}
 use Rattle.rx_spec.proofs.Prelude.{IsSound}
-use Rattle.rx_spec.specs.Sizes.{build_alphabet}
 use Rattle.rx_base.specs.ByteClasses.{alphabet_len}
 use Rattle.rx_dense.specs.Layouts.{AreRows, Layout, row_count, table_of}
 use Rattle.rx_dense.proofs.Rows.{alphabet_few}
@@ -41,7 +40,6 @@ module _ (l : Layout) (rows : AreRows l) (sound : IsSound (table_of l)) where
       (λ i h. omega (arith, len_most l sound (2 + i) (omega arith) rows, labels i h)) in
       let all : sparse_len l ≡ sum_by (len_at l) (range_with_len 0 (suc (suc (length states)))) =
       sparse_sum l ∙ ap (λ n. sum_by (len_at l) (range_with_len 0 n)) count in
-      let product : (length states + 2) * most ≡ length states * most + most + most = omega arith in
       omega (
         arith,
         all,
@@ -50,7 +48,6 @@ module _ (l : Layout) (rows : AreRows l) (sound : IsSound (table_of l)) where
         dead_len (omega arith),
         quit_len (omega arith),
         behind,
-        product,
       )
 
   -- A table of dead and quit alone isn't too long.
@@ -77,17 +74,14 @@ module _ {b : Build} {byte_classes : Bool} {l : Layout} (is : IsBounded b byte_c
   told_apart : IsApart (table_of l) b
   told_apart = grind (arith, common_steps)
 
-  -- its columns are those of the build
-  alphabet_is : build_alphabet b byte_classes ≡ alphabet_len l.classes
-  alphabet_is = omega (arith, class_is b byte_classes l is.classes 255 (omega arith))
-
   -- and its rows are within the bound of these states
   bound_holds : (states : List State) → AreRowStates told_apart states
       → sparse_len l ≤ sparse_bound b byte_classes states
   bound_holds states are =
       let le = len_bound l rows is.sound states are.counted
       (λ i h. ap named (alike_label (are.each i h).alike) ∙ named_label (get_or states i dead_state).label) in
-      subst (λ n. sparse_len l ≤ (length states + 2) * (6 * n + 10) + 4 * label_total states) (sym alphabet_is) le
+      subst (λ n. sparse_len l ≤ (length states + 2) * (6 * n + 10) + 4 * label_total states)
+      (sym (omega (arith, class_is b byte_classes l is.classes 255 (omega arith)))) le
 
   -- Rows that are too long are so by their bound.
   pub too_long : max_id < sparse_len l → Exceeds b (sparse_bound b byte_classes) max_id

@@ -1,6 +1,6 @@
 -- The rows of the sparse table of a powerset machine are as long as the definitions say of its states.
-use Rattle.rx_spec.proofs.Prelude.{common_steps, ◌≡◌, ◌≢◌, ℕ, zero, suc, ◌+◌, ◌<◌, ◌≤◌, Bool, List, ◌∷◌, length, map}
-use Rattle.rx_spec.proofs.Prelude.{get_or, refl, ap, sym, ◌∙◌, arith, sum_by, All, AllPairs, range_with_len, length-map}
+use Rattle.rx_spec.proofs.Prelude.{common_steps, ◌≡◌, ◌≢◌, ℕ, zero, suc, ◌<◌, ◌≤◌, Bool, List, ◌∷◌, length, map, get_or}
+use Rattle.rx_spec.proofs.Prelude.{refl, ap, sym, ◌∙◌, arith, sum_by, All, AllPairs, range_with_len, length-map}
 use Rattle.rx_spec.proofs.Prelude.{All-contains, Build, IsReached, Node, dead, Exceeds, max_id, node_at, sparse_size}
 use Rattle.rx_spec.proofs.Prelude.{State}
 use Rattle.rx_spec.specs.Sizes.{patterns_size, sparse_row_size}
@@ -51,8 +51,7 @@ module _ {b : Build} {byte_classes accelerate : Bool} {l : Layout} (is : IsMeasu
       ∙ ap (λ n. sum_by (len_at l) (range_with_len 0 n)) count
       ∙ sum_exactly size dead (len_at l) 0 nodes
       (λ i h.
-      let from : 0 + i ≡ i = omega arith in
-      ap (len_at l) from ∙ row_counted i (omega (arith, count)) ∙ ap size (sym (node_there is.power.states i)))
+      ap (len_at l) (omega arith) ∙ row_counted i (omega (arith, count)) ∙ ap size (sym (node_there is.power.states i)))
 
   -- it is the greatest size of states that are reached
   pub len_greatest : (some : List State) → AllPairs (λ x y. x ≢ y) some → All (IsReached b) some

@@ -1,8 +1,7 @@
 -- What refuses a sparse table: what refuses its dense one, or that its rows are too long.
 use Rattle.rx_spec.proofs.Prelude.{arith, ◌≡◌, ℕ, ◌<◌, ◌≤◌, Bool, true, false, if◌then◌else◌, List, inr, refl, ap}
 use Rattle.rx_spec.proofs.Prelude.{subst, common_steps, Result, Ok, Err, IfOk, IfErr, OnOk, Build, BuildFits, Exceeds}
-use Rattle.rx_spec.proofs.Prelude.{IsUnsupported, max_id, Expression, Nfa, sparse_bound, sparse_size, State}
-use Rattle.rx_spec.specs.Causes.{HasTooLongRows}
+use Rattle.rx_spec.proofs.Prelude.{max_id, Expression, Nfa, sparse_bound, sparse_size, State}
 use Rattle.rx_build_error.specs.Refusals.{IsRefused, TableRefused}
 use Rattle.rx_build_error.specs.declared.BuildError.{BuildError}
 use Rattle.rx_build_error.specs.declared.BuildErrorKind.{BuildErrorKind}
@@ -15,7 +14,6 @@ use Rattle.rx_build.specs.Settings.{Settled}
 use Rattle.rx_build.proofs.Beginnings.{refused_as}
 use Rattle.rx_sparse.specs.Layouts.{Stored}
 use Rattle.rx_sparse.specs.Sparse.{IsTooLong, little_sparse_of, sparse_len}
-use Rattle.rx_determinize.specs.Determinized.{classes_of}
 use Rattle.rx_sparse_build.specs.Measured.{IsBounded, IsMeasured}
 use Rattle.rx_sparse_build.proofs.Bounds.{too_long as bound_too_long}
 use Rattle.rx_sparse_build.proofs.Lengths.{fits as fits_rows, too_long}
@@ -32,14 +30,11 @@ module _ (s : Settled) (nfa : Nfa) (l : Layout) (shaped : IsShaped l) (is : IsBu
   abbrev b : Build
   b = build_of s nfa
 
-  classes : l.classes ≡ classes_of nfa b.quit s.byte_classes
-  classes = ap (λ (m : Layout). m.classes) is.rest
-
   measured : s.minimize ≡ false → IsMeasured b s.byte_classes s.accelerate l
   measured e = record {
     shaped = shaped;
     sound = is.in_order.sound;
-    classes = classes;
+    classes = ap (λ (m : Layout). m.classes) is.rest;
     power = is.power e;
     accelerated = is.accelerated;
   }
@@ -48,7 +43,7 @@ module _ (s : Settled) (nfa : Nfa) (l : Layout) (shaped : IsShaped l) (is : IsBu
   bounded e = record {
     shaped = shaped;
     sound = is.in_order.sound;
-    classes = classes;
+    classes = ap (λ (m : Layout). m.classes) is.rest;
     gives = is.gives;
     reached = is.reached;
     apart = is.apart e;
@@ -59,28 +54,11 @@ module _ (s : Settled) (nfa : Nfa) (l : Layout) (shaped : IsShaped l) (is : IsBu
   by_choice false e h = too_long (measured e) h
   by_choice true e h = bound_too_long (bounded e) h
 
-  too_long_rows : max_id < sparse_len l → HasTooLongRows (sparse_limits s) b
-  too_long_rows h = (refl, by_choice s.minimize refl h)
-
-  pub sparse_fits : sparse_len l ≤ max_id → BuildFits (limits_of s) b → BuildFits (sparse_limits s) b
-  sparse_fits h fits = record {
-    supported = fits.supported;
-    states = fits.states;
-    rows = λ e rows.
-        fits_rows (measured e) h
-        (subst (λ m. Exceeds b (chosen b s.byte_classes s.accelerate m) max_id) e rows.1);
-    patterns = fits.patterns;
-    table = fits.table;
-    construction = fits.construction;
-  }
-
-  supported : BuildFits (limits_of s) b → IsUnsupported b → ⊥
-  supported fits un = un.lacks (fits.supported un.looks)
-
   pub too_long_refused : BuildFits (limits_of s) b → (kind : BuildErrorKind) → IsTooLong (sparse_len l) kind
       → IsRefused (TableRefused (sparse_limits s) b) kind
   too_long_refused fits BuildErrorKind.Memory r = tt
-  too_long_refused fits BuildErrorKind.TooManyStates r = (supported fits, inr (too_long_rows r))
+  too_long_refused fits BuildErrorKind.TooManyStates r =
+      ((λ un. un.lacks (fits.supported un.looks)), inr ((refl, by_choice s.minimize refl r)))
   too_long_refused fits _ r = absurd r
 
   -- ---- the table, made sparse
@@ -92,7 +70,16 @@ module _ (s : Settled) (nfa : Nfa) (l : Layout) (shaped : IsShaped l) (is : IsBu
 
   pub all_fit : (r : Result Stored BuildError) → BuildFits (limits_of s) b → OnOk r (sparse_len l ≤ max_id)
       → OnOk r (BuildFits (sparse_limits s) b)
-  all_fit (Ok t) fits h = sparse_fits h fits
+  all_fit (Ok t) fits h = record {
+    supported = fits.supported;
+    states = fits.states;
+    rows = λ e rows.
+        fits_rows (measured e) h
+        (subst (λ m. Exceeds b (chosen b s.byte_classes s.accelerate m) max_id) e rows.1);
+    patterns = fits.patterns;
+    table = fits.table;
+    construction = fits.construction;
+  }
   all_fit (Err error) fits h = tt
 
   pub made_refused : (r : Result Stored BuildError) → BuildFits (limits_of s) b

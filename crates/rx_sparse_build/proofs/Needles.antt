@@ -35,13 +35,14 @@ module _ {t : Table} {b : Build} (p : IsPower t b) (sound : IsSound t) (accelera
       (λ yes. ap length (sound.needles row h yes) ∙ sym (ap (count_if (leaving t row)) yes))
       (λ no. ap length (sound.no_needle row h no) ∙ sym (ap (count_if (leaving t row)) no))
 
-  -- and by its node
-  counted_by_node : needle_count b accelerate p.states (node_at p.states row)
-      ≡ count_if (leaving t row) (accelerate && nat_lt 2 t.size && are_few (leaving t row))
-  counted_by_node =
-      ap₂ (λ (some : Bool) (bytes : List ℕ). count_if bytes (accelerate && some && are_few bytes)) (some_state p)
-      (leaving_same p sound.is_table row h)
-
   -- both ways they are as many
   pub needles_counted : length (t.needles row) ≡ needle_count b accelerate p.states (node_at p.states row)
-  needles_counted = grind (arith, common_steps, counted_by_row, and_both, counted_by_node)
+  needles_counted =
+      grind (
+        arith,
+        common_steps,
+        counted_by_row,
+        and_both,
+        ap₂ (λ (some : Bool) (bytes : List ℕ). count_if bytes (accelerate && some && are_few bytes)) (some_state p)
+            (leaving_same p sound.is_table row h),
+      )

@@ -1,5 +1,5 @@
 -- The special ids of a table whose rows lie in order are ids of rows.
-use Rattle.rx_spec.proofs.Prelude.{◌≡◌, ℕ, ◌*◌, ◌<◌, ◌≤◌, length, sym, ◌∙◌, subst, ⊎_elim, arith, max, cases_lt, le-div}
+use Rattle.rx_spec.proofs.Prelude.{◌≡◌, ℕ, ◌<◌, ◌≤◌, length, sym, ◌∙◌, subst, ⊎_elim, arith, max, cases_lt, le-div}
 use Rattle.rx_spec.proofs.Prelude.{pow_pos}
 use Rattle.rx_dense.specs.Layouts.{AreRows, IsRowId, Layout, row_count, stride}
 use Rattle.rx_dense.proofs.Rows.{IsRowId-row}
@@ -33,9 +33,8 @@ module _ (l : Layout) (rows : AreRows l) where
   pub special_rows : IsOrdered l → AreSpecialRows l
   special_rows ordered =
       let two : 2 ≤ row_count l = le-div 2 (length l.words) (stride l) (pow_pos l.stride2) rows.two in
-      let one : 1 * stride l ≡ stride l = omega arith in
       let quit : IsRowId l l.special.quit =
-      subst (IsRowId l) (one ∙ sym ordered.quit) (IsRowId-row l 1 (omega arith)) in
+      subst (IsRowId l) ((omega arith) ∙ sym ordered.quit) (IsRowId-row l 1 (omega arith)) in
       let matches = ends ordered.matches in
       let accels = ends ordered.accels in
       let starts = ends ordered.starts in

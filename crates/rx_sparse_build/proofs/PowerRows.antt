@@ -2,8 +2,8 @@
 -- same bytes.
 use Rattle.rx_spec.proofs.Prelude.{common_steps, ◌≡◌, ℕ, zero, suc, ◌<◌, ◌==◌, true, false, not, length, get_or, refl}
 use Rattle.rx_spec.proofs.Prelude.{ap, sym, ◌∙◌, arith, nat_lt, range_with_len, cases_lt, le-ltb, lt-ltb, ne_eqb}
-use Rattle.rx_spec.proofs.Prelude.{get_or-map, All-get_or, Build, IsReached, Node, dead, is_dead, is_dead_state}
-use Rattle.rx_spec.proofs.Prelude.{next_node, IsPower, node_at, same_node, State, dead_state, IsTable, Table, leaving}
+use Rattle.rx_spec.proofs.Prelude.{get_or-map, All-get_or, Build, IsReached, Node, dead, is_dead, next_node, IsPower}
+use Rattle.rx_spec.proofs.Prelude.{node_at, same_node, State, dead_state, IsTable, Table, leaving}
 use Rattle.std.proofs.lemmas.Bool.{cases_order}
 use Rattle.rx_spec.specs.Sizes.{leaving_bytes}
 use Rattle.lemmas_tables.proofs.Filters.{every_in_range, filter_alike}
@@ -20,11 +20,9 @@ module _ {t : Table} {b : Build} (p : IsPower t b) where
   node_behind : (i : ℕ) → i < length p.states → node (suc (suc i)) ≡ Node.Running (state i)
   node_behind i h = get_or-map (λ s. Node.Running s) p.states i dead_state dead h
 
-  alive : (i : ℕ) → i < length p.states → is_dead_state (state i) ≡ false
-  alive i h = (All-get_or (IsReached b) p.states i dead_state h p.reached.only).alive
-
   alive_behind : (i : ℕ) → i < length p.states → is_dead (node (suc (suc i))) ≡ false
-  alive_behind i h = ap is_dead (node_behind i h) ∙ alive i h
+  alive_behind i h =
+      ap is_dead (node_behind i h) ∙ (All-get_or (IsReached b) p.states i dead_state h p.reached.only).alive
 
   -- row 0 alone is dead
   pub dead_is : (row : ℕ) → row < t.size → is_dead (node row) ≡ (row == 0)
@@ -34,33 +32,24 @@ module _ {t : Table} {b : Build} (p : IsPower t b) where
 
   -- ---- different rows have different nodes
 
-  -- quit, dead and two states are different nodes
-  quit_behind : (i : ℕ) → i < length p.states → node 1 ≡ node (suc (suc i)) → ⊥
-  quit_behind i h e = let f = e ∙ node_behind i h in cc
-
   dead_behind : (i : ℕ) → suc (suc i) < t.size → node 0 ≡ node (suc (suc i)) → ⊥
   dead_behind i h e = let f : true ≡ false = ap is_dead e ∙ alive_behind i (omega (arith, p.size)) in cc
-
-  state_one : (i j : ℕ) → i < j → j < length p.states → node (suc (suc i)) ≡ node (suc (suc j)) → ⊥
-  state_one i j less h e =
-      let f : Node.Running (state i) ≡ Node.Running (state j) =
-      sym (node_behind i (omega arith)) ∙ e ∙ node_behind j h in
-      p.reached.distinct i j dead_state less h (cc f)
 
   below_apart : (x y : ℕ) → x < y → y < t.size → node x ≡ node y → ⊥
   below_apart x zero less h e = omega (arith, less)
   below_apart zero (suc zero) less h e = cc e
   below_apart (suc x) (suc zero) less h e = omega (arith, less)
   below_apart zero (suc (suc j)) less h e = dead_behind j h e
-  below_apart (suc zero) (suc (suc j)) less h e = quit_behind j (omega (arith, p.size)) e
-  below_apart (suc (suc i)) (suc (suc j)) less h e = state_one i j (omega arith) (omega (arith, p.size)) e
-
-  row_one : (x y : ℕ) → x < t.size → y < t.size → node x ≡ node y → x ≡ y
-  row_one x y hx hy e = grind (arith, common_steps, cases_order, below_apart)
+  below_apart (suc zero) (suc (suc j)) less h e = (let f = e ∙ node_behind j (omega (arith, p.size)) in cc)
+  below_apart (suc (suc i)) (suc (suc j)) less h e =
+      let f : Node.Running (state i) ≡ Node.Running (state j) =
+      sym (node_behind i (omega arith)) ∙ e ∙ node_behind j (omega (arith, p.size)) in
+      p.reached.distinct i j dead_state (omega arith) (omega (arith, p.size)) (cc f)
 
   -- so the test of two rows' nodes is that of the rows
   pub same_rows : (x y : ℕ) → x < t.size → y < t.size → same_node (node x) (node y) ≡ (x == y)
-  same_rows x y hx hy = same_numbers x y (node x) (node y) (ap node) (row_one x y hx hy)
+  same_rows x y hx hy =
+      same_numbers x y (node x) (node y) (ap node) (λ e. grind (arith, common_steps, cases_order, below_apart))
 
   -- ---- the bytes that leave a row
 

@@ -18,14 +18,9 @@ module _ (b : Build) where
   dead_tells Node.Quit word e = absurd (cc)
   dead_tells (Node.Running s) [] e = grind (arith, common_steps, run-nil, eqb-true, and_parts)
   dead_tells (Node.Running s) (unit ∷ word) e =
-      let leads : next_node b (Node.Running s) unit ≡ dead = rw e refl in
       ap node_label (run-cons (next_node b) (Node.Running s) unit word)
-      ∙ ap (λ n. label_after (power b) n word) leads
+      ∙ ap (λ n. label_after (power b) n word) (rw e refl)
       ∙ dead_tells dead word refl
-
-  -- from quit every word but the empty one does
-  quit_goes : (unit : ℕ) (word : List ℕ) → label_after (power b) Node.Quit (unit ∷ word) ≡ Label.Plain
-  quit_goes unit word = grind (arith, common_steps, run-cons, dead_tells)
 
 -- ---- and the rows of a table
 
@@ -74,7 +69,7 @@ module _ {t : Table} {b : Build} (is : IsTable t) where
       tell [] w =
           ap t.machine.label (run-nil t.machine.next 1) ∙ is.quit_label
           ∙ sym (ap node_label (run-nil (next_node b) Node.Quit))
-      tell (unit ∷ word) w = quit_row is unit word w ∙ sym (quit_goes b unit word)
+      tell (unit ∷ word) w = quit_row is unit word w ∙ sym (grind (arith, common_steps, run-cons, dead_tells b))
 
 -- ---- the state of a row
 
@@ -140,12 +135,6 @@ module _ {t : Table} {b : Build} (is : IsApart t b) where
           },
         )
 
-  -- different rows have different states
-  pub states_differ : (x y : ℕ) (s u : State) → x < t.size → y < t.size → x ≢ y → IsStateOf t b x s
-      → IsStateOf t b y u → s ≢ u
-  states_differ x y s u hx hy other p q same =
-      not_apart p.alike q.alike (ap Node.Running same) (is.apart x y hx hy other)
-
   -- as many states from a row on
   record AreStates (row count : ℕ) : Type 0 where
     states : List State
@@ -166,12 +155,9 @@ module _ {t : Table} {b : Build} (is : IsApart t b) where
     where
       each : (first : (s : State) × IsStateOf t b row s) (rest : AreStates (row + 1) count) (i : ℕ) → i < suc count
           → IsStateOf t b (row + i) (get_or (first.0 ∷ rest.states) i dead_state)
-      each first rest zero lt =
-          let here : row ≡ row + 0 = omega arith in
-          subst (λ r. IsStateOf t b r first.0) here first.1
+      each first rest zero lt = subst (λ r. IsStateOf t b r first.0) (omega arith) first.1
       each first rest (suc i) lt =
-          let there : row + 1 + i ≡ row + suc i = omega arith in
-          subst (λ r. IsStateOf t b r (get_or rest.states i dead_state)) there (rest.each i (omega arith))
+          subst (λ r. IsStateOf t b r (get_or rest.states i dead_state)) (omega arith) (rest.each i (omega arith))
 
   -- The states of all rows behind quit: they are reached, and different.
   pub record AreRowStates (states : List State) : Type 0 where
@@ -183,7 +169,6 @@ module _ {t : Table} {b : Build} (is : IsApart t b) where
   -- there are such states
   pub row_states : (states : List State) × AreRowStates states
   row_states =
-      let two = is.is_table.two in
       let all = states_from 2 (t.size - 2) (omega arith) (omega arith) in
       let count = all.counted in
       let within : (i : ℕ) → i < length all.states → i < t.size - 2 = λ i h. omega arith in (
@@ -191,11 +176,11 @@ module _ {t : Table} {b : Build} (is : IsApart t b) where
         record {
           counted = omega arith;
           distinct = λ i j d less h.
-              let a = get_or_default all.states i d dead_state (omega arith) in
               let c = get_or_default all.states j d dead_state h in
               λ same.
-              states_differ (2 + i) (2 + j) _ _ (omega arith) (omega arith) (λ e. omega (arith, e))
-              (all.each i (omega arith)) (all.each j (omega arith)) (sym a ∙ same ∙ c);
+              (not_apart (all.each i (omega arith)).alike (all.each j (omega arith)).alike
+              (ap Node.Running (sym (get_or_default all.states i d dead_state (omega arith)) ∙ same ∙ c))
+              (is.apart (2 + i) (2 + j) (omega arith) (omega arith) (λ e. omega (arith, e, is.is_table.two))));
           reached = All-from_get_or (IsReached b) all.states dead_state (λ i h. (all.each i (within i h)).reached);
           each = λ i h. all.each i (within i h);
         },

@@ -67,10 +67,6 @@ module _ (l : Layout) (sound : IsSound (table_of l)) (row : ℕ) (h : row < row_
   patterns_counted =
       list_counted (is_match_id l.special id) (is_quit_id l.special id) lists (sound.is_table.lists row h)
 
-  -- and so is their number
-  patterns_named : length (patterns_of_id l id) ≡ named ((table_of l).machine.label row)
-  patterns_named = kept_named (is_match_id l.special id) (is_quit_id l.special id) lists
-
   -- It has a range for each class that begins one.
   pub ranges_are : length (ranges_of (row_at l row).next_ids)
       ≡ length (filter (λ first. begins_range (row_at l row).next_ids first && is_live (row_at l row).next_ids first)
@@ -86,6 +82,6 @@ module _ (l : Layout) (sound : IsSound (table_of l)) (row : ℕ) (h : row < row_
         ranges_few (row_at l row).next_ids,
         ids_count l rows row h,
         list_few (patterns_of_id l id),
-        patterns_named,
+        kept_named (is_match_id l.special id) (is_quit_id l.special id) lists,
         needles_few sound row h,
       )

@@ -9,12 +9,10 @@ module _ {X : Type 0} (measure : X → ℕ) (d : X) (len : ℕ → ℕ) where
       → sum_by len (range_with_len row (length xs)) ≡ sum_by measure xs
   sum_exactly row [] each = refl
   sum_exactly row (x ∷ xs) each =
-      let here : row + 0 ≡ row = omega arith in
-      let first : len row ≡ measure x = subst (λ r. len r ≡ measure x) here (each 0 (omega arith)) in
+      let first : len row ≡ measure x = subst (λ r. len r ≡ measure x) (omega arith) (each 0 (omega arith)) in
       let rest = sum_exactly (row + 1) xs
       (λ i h.
-      let there : row + suc i ≡ row + 1 + i = omega arith in
-      subst (λ r. len r ≡ measure (get_or xs i d)) there (each (suc i) (omega arith))) in
+      subst (λ r. len r ≡ measure (get_or xs i d)) (omega arith) (each (suc i) (omega arith))) in
       omega (
         arith,
         sum_by-cons len row (range_with_len (row + 1) (length xs)),
@@ -27,14 +25,12 @@ module _ {X : Type 0} (measure : X → ℕ) (d : X) (len : ℕ → ℕ) where
       → sum_by len (range_with_len row (length xs)) ≤ length xs * most + 4 * sum_by measure xs
   sum_at_most most row [] each = omega arith
   sum_at_most most row (x ∷ xs) each =
-      let here : row + 0 ≡ row = omega arith in
       let first : len row ≤ most + 4 * measure x =
-      subst (λ r. len r ≤ most + 4 * measure x) here (each 0 (omega arith)) in
+      subst (λ r. len r ≤ most + 4 * measure x) (omega arith) (each 0 (omega arith)) in
       let rest : sum_by len (range_with_len (row + 1) (length xs)) ≤ length xs * most + 4 * sum_by measure xs =
       sum_at_most most (row + 1) xs
       (λ i h.
-      let there : row + suc i ≡ row + 1 + i = omega arith in
-      subst (λ r. len r ≤ most + 4 * measure (get_or xs i d)) there (each (suc i) (omega arith))) in
+      subst (λ r. len r ≤ most + 4 * measure (get_or xs i d)) (omega arith) (each (suc i) (omega arith))) in
       let more : suc (length xs) * most ≡ most + length xs * most = omega arith in
       omega (
         arith,

@@ -87,12 +87,11 @@ pub record AreClosed (l : Layout) : Type 0 where
 
 pub closed : (told : ℕ) (l : Layout) → is_closed told l ≡ true → AreClosed l
 closed told l test =
-    let t2 = and_parts _ (starts_stand l) test in
-    let t1 = and_parts _ (are_special_rows l l.special) t2.0 in
+    let t1 = and_parts _ (are_special_rows l l.special) (and_parts _ (starts_stand l) test).0 in
     let t0 = and_parts (row_count l == told) (rows_stand l) t1.0 in
     let r1 = and_parts _ (each_row (row_stands l) 0 l.rows) t0.1 in
     let r0 = and_parts (leb 2 (row_count l)) (l.special.quit == id_of (ids_of l) 1) r1.0 in
-    let s1 = and_parts _ (is_universal l l.universal_anchored) t2.1 in
+    let s1 = and_parts _ (is_universal l l.universal_anchored) (and_parts _ (starts_stand l) test).1 in
     let s0 = and_parts (list_all (is_start_row l) l.starts) (is_universal l l.universal_unanchored) s1.0 in
     record {
       two = leb-true _ _ r0.0;
@@ -106,7 +105,6 @@ closed told l test =
 
 pub quit_is : (l : Layout) → AreClosed l → IsId (ids_of l) l.special.quit
 quit_is l facts =
-    let two = facts.two in
     let row : row_of (ids_of l) l.special.quit ≡ 1 =
     ap (row_of (ids_of l)) facts.quit ∙ row_of-id_of (offsets_are_ids l.rows) 1 (omega arith) in
-    omega (arith, length-offsets 0 l.rows)
+    omega (arith, length-offsets 0 l.rows, facts.two)

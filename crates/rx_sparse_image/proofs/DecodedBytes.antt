@@ -46,12 +46,6 @@ number32_below Order.Big bytes are = grind (arith, common_steps)
 
 -- ---- words
 
--- a word is below 2 ^ 32
-pub word_below : (order : Order) (bytes : List ℕ) → AreBytes bytes → (k : ℕ) → word_at order bytes k < 2 ^ 32
-word_below order bytes are k =
-    number32_below order (take 4 (drop (4 * k) bytes))
-    (All-take (λ b. b < 256) 4 (drop (4 * k) bytes) (All-drop (λ b. b < 256) (4 * k) bytes are))
-
 -- the words from a place on are those bytes
 words_from : (order : Order) (bytes : List ℕ) → AreBytes bytes → (place count : ℕ)
     → 4 * (place + count) ≤ length bytes
@@ -60,18 +54,14 @@ words_from : (order : Order) (bytes : List ℕ) → AreBytes bytes → (place co
 words_from order bytes are place zero h = refl
 words_from order bytes are place (suc count) h =
     let here : List ℕ = drop (4 * place) bytes in
-    let first : List ℕ = take 4 here in
-    let enough : 4 ≤ length here = omega (arith, length-drop (4 * place) bytes) in
-    let next : 4 * (place + 1) ≡ 4 * place + 4 = omega arith in
-    let more : 4 * suc count ≡ 4 + 4 * count = omega arith in
     ap₂ (λ (a b : List ℕ). a ++ b)
-    (field32_is order first
+    (field32_is order (take 4 here)
     (All-take (λ b. b < 256) 4 here (All-drop (λ b. b < 256) (4 * place) bytes are))
-    (length-take-le 4 here enough))
+    (length-take-le 4 here (omega (arith, length-drop (4 * place) bytes))))
     (words_from order bytes are (place + 1) count (omega arith)
-    ∙ ap (λ n. take (4 * count) (drop n bytes)) next
+    ∙ ap (λ n. take (4 * count) (drop n bytes)) (omega arith)
     ∙ ap (take (4 * count)) (sym (drop-drop 4 (4 * place) bytes)))
-    ∙ sym (ap (λ n. take n here) more ∙ take-add 4 (4 * count) here)
+    ∙ sym (ap (λ n. take n here) (omega arith) ∙ take-add 4 (4 * count) here)
 
 -- so many words are the bytes at the front
 pub words_are : (order : Order) (count : ℕ) (bytes : List ℕ) → AreBytes bytes → 4 * count ≤ length bytes
@@ -82,8 +72,7 @@ words_are order count bytes are h = words_from order bytes are 0 count (omega ar
 pub word_in_front : (order : Order) (count : ℕ) (bytes : List ℕ) (k : ℕ) → k < count
     → word_at order (take (4 * count) bytes) k ≡ word_at order bytes k
 word_in_front order count bytes k h =
-    let split : 4 * count ≡ 4 * k + 4 * (count - k) = omega arith in
-    ap (λ n. number order w32 (take 4 (drop (4 * k) (take n bytes)))) split
+    ap (λ n. number order w32 (take 4 (drop (4 * k) (take n bytes)))) (omega arith)
     ∙ ap (λ t. number order w32 (take 4 t)) (drop-take (4 * k) (4 * (count - k)) bytes)
     ∙ ap (number order w32) (take-take 4 (4 * (count - k)) (drop (4 * k) bytes) (omega arith))
 
@@ -130,7 +119,6 @@ module _ (order : Order) (count : ℕ) (ends ids : List ℕ) (some : 1 ≤ count
       ++ word_at order ids (count - 1) ∷ []
       ≡ words_in order count ids
   nexts_are =
-      let all : count - 1 + 1 ≡ count = omega arith in
       ap (λ t. t ++ word_at order ids (count - 1) ∷ []) (nexts_from 0 (count - 1))
       ∙ sym (map-range_with_len_more (word_at order ids) 0 (count - 1) (count - 1) (omega arith))
-      ∙ ap (λ n. words_in order n ids) all
+      ∙ ap (λ n. words_in order n ids) (omega arith)

@@ -22,16 +22,14 @@ made : (order : Order) (row : Row) → FitsBytes row
 made order row fits =
     let text : List ℕ = row_text order row ++ [] in
     let some : Bool = is_some_list row.patterns in
-    let ends : List ℕ = ends_text row.ranges in
-    let ids : List ℕ = words_text order (next_ids row) in
     let behind = rest_is order row [] fits
     ∙ ap (λ t. patterns_text order row.patterns ++ t) (append-nil (length row.needles ∷ row.needles)) in
     sym (
     ap (λ m. row_of_parts order m (ends_in order text) (next_ids_in order text) (rest_in order text))
     (matches_is order row [] fits)
     ∙ ap (λ e. row_of_parts order some e (next_ids_in order text) (rest_in order text)) (ends_is order row [] fits)
-    ∙ ap (λ i. row_of_parts order some ends i (rest_in order text)) (ids_is order row [] fits)
-    ∙ ap (λ r. row_of_parts order some ends ids r) behind
+    ∙ ap (λ i. row_of_parts order some (ends_text row.ranges) i (rest_in order text)) (ids_is order row [] fits)
+    ∙ ap (λ r. row_of_parts order some (ends_text row.ranges) (words_text order (next_ids row)) r) behind
     )
     ∙ row_again order row [] fits
 
@@ -66,14 +64,11 @@ module _ {order : Order} {p : RowParts} (are : AreParts order p) where
   abbrev row : Row
   row = row_of order p
 
-  pub ends_len : length p.ends.now ≡ 2 * (length (row_of order p).ranges + 1)
-  ends_len = ap length are.ends ∙ length-ends row.ranges
-
   pub ids_len : length p.next_ids.now ≡ 2 * length p.ends.now
-  ids_len = grind (arith, common_steps, ends_len, length-words)
+  ids_len = grind (arith, common_steps, ap length are.ends ∙ length-ends row.ranges, length-words)
 
   pub ends_some : 2 ≤ length p.ends.now
-  ends_some = omega (arith, ends_len)
+  ends_some = omega (arith, ap length are.ends ∙ length-ends row.ranges)
 
   -- the id at a place is there
   pub id_within : (i : ℕ) → i < length p.ends.now / 2 → 4 * i + 4 ≤ length p.next_ids.now
@@ -85,11 +80,10 @@ module _ {order : Order} {p : RowParts} (are : AreParts order p) where
   next_ids_are =
       let ids : List ℕ = p.next_ids.now in
       let n : ℕ = length p.ends.now / 2 - 1 in
-      let count : n + 1 ≡ length p.ends.now / 2 = omega (arith, ends_len) in
-      let none : 0 + n ≡ n = omega arith in
+      let count : n + 1 ≡ length p.ends.now / 2 = omega (arith, ap length are.ends ∙ length-ends row.ranges) in
       ap (λ t. t ++ word_at order ids n ∷ [])
       (map-map (λ (range : ClassRange). range.next) (range_in order p.ends.now ids) (range_with_len 0 n))
-      ∙ sym (map-range_with_len_more (word_at order ids) 0 n n none)
+      ∙ sym (map-range_with_len_more (word_at order ids) 0 n n (omega arith))
       ∙ ap (λ k. map (word_at order ids) (range_with_len 0 k)) count
 
   -- a test of all of them is a test of each word

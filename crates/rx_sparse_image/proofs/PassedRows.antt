@@ -1,9 +1,8 @@
 -- Rows that were read one behind another: what is true of those that were passed, and of the reading that is left.
 use Rattle.rx_spec.proofs.Prelude.{common_steps, [], ◌≡◌, ℕ, zero, suc, ◌+◌, ◌-◌, ◌<◌, ◌≤◌, Bool, true, false, ◌==◌}
 use Rattle.rx_spec.proofs.Prelude.{List, ◌∷◌, ◌++◌, length, drop, get_or, Result, Ok, Err, refl, ap, sym, ◌∙◌, set}
-use Rattle.rx_spec.proofs.Prelude.{replicate, append_assoc, ⊎_elim, arith, list_any, cases_lt, eq-eqb, or_right}
-use Rattle.rx_spec.proofs.Prelude.{drop-drop, get_or_append_left, get_or-set_same, get_or_push, list_any-append}
-use Rattle.rx_spec.proofs.Prelude.{AreBytes, id_of}
+use Rattle.rx_spec.proofs.Prelude.{replicate, append_assoc, ⊎_elim, arith, list_any, cases_lt, drop-drop}
+use Rattle.rx_spec.proofs.Prelude.{get_or_append_left, get_or_push, AreBytes, id_of}
 use Rattle.std.proofs.lemmas.List.Concat.{flat_map-append}
 use Rattle.rx_wire.specs.declared.order.Order.{Order}
 use Rattle.rx_wire.specs.Kinds.{FailsBy, Kind, ◌>>=◌}
@@ -14,7 +13,7 @@ use Rattle.rx_sparse.proofs.RowTexts.{length-rows}
 use Rattle.rx_sparse.proofs.RowPlaces.{length-rows_in}
 use Rattle.rx_sparse_image.specs.declared.walk.Bounds.{Bounds}
 use Rattle.rx_sparse_image.specs.RowSets.{begins_at, marked}
-use Rattle.rx_sparse_image.specs.Tested.{AreTestedRows, IsTestedRow}
+use Rattle.rx_sparse_image.specs.Tested.{IsTestedRow}
 use Rattle.rx_sparse_image.specs.Walks.{row_at, rows_at, rows_from}
 use Rattle.rx_sparse_image.proofs.TestedRows.{IsPassedRow, passed_row}
 
@@ -26,9 +25,8 @@ offsets-push : (at : ℕ) (rows : List Row) (row : Row)
 unfolding offsets_from rows_len
 offsets-push at [] row = let same : at ≡ at + 0 = omega arith in ap (λ n. n ∷ []) same
 offsets-push at (r ∷ rows) row =
-    let same : at + row_len r + rows_len rows ≡ at + (row_len r + rows_len rows) = omega arith in
     ap (λ t. at ∷ t) (offsets-push (at + row_len r) rows row
-    ∙ ap (λ n. offsets_from (at + row_len r) rows ++ n ∷ []) same)
+    ∙ ap (λ n. offsets_from (at + row_len r) rows ++ n ∷ []) (omega arith))
 
 -- the row behind those that were passed
 rows_in-more : (order : Order) (count : ℕ) (bytes : List ℕ)
@@ -47,9 +45,7 @@ rows_in-more order (suc count) bytes =
 rows_in-push : (order : Order) (count : ℕ) (bytes : List ℕ)
     → rows_in order (count + 1) bytes
     ≡ rows_in order count bytes ++ row_in order (drop (rows_len (rows_in order count bytes)) bytes) ∷ []
-rows_in-push order count bytes =
-    let one : count + 1 ≡ suc count = omega arith in
-    ap (λ n. rows_in order n bytes) one ∙ rows_in-more order count bytes
+rows_in-push order count bytes = ap (λ n. rows_in order n bytes) (omega arith) ∙ rows_in-more order count bytes
 
 -- ---- rows that were passed
 
@@ -220,14 +216,6 @@ module _ {b : Bounds} {bytes rest : List ℕ} {count : ℕ} (are : ArePassed b b
   abbrev all : List Row
   all = rows_in b.order count bytes
 
-  -- the reading gives the rows that were passed
-  pub all_read : rows_at b bytes ≡ Ok all
-  all_read = grind (arith, common_steps, none_left)
-
-  -- each of them passed its tests
-  pub all_tested : AreTestedRows b all
-  all_tested = grind (arith, common_steps, length-rows_in, size)
-
 -- ---- marks
 
 -- a set without a mark
@@ -241,12 +229,6 @@ pub marks_none : (order : Order) (bytes : List ℕ) (begins : List Bool) (len : 
     → (k : ℕ) → begins_at begins k ≡ list_any (λ place. place == k) (offsets (rows_in order 0 bytes))
 unfolding rows_in offsets_from
 marks_none order bytes begins len e k = ap (λ t. begins_at t k) e ∙ no_mark len k
-
--- one place is marked more
-pub marks_more : (begins : List Bool) (places : List ℕ) (at : ℕ) → at < length begins
-    → ((k : ℕ) → begins_at begins k ≡ list_any (λ place. place == k) places)
-    → (k : ℕ) → begins_at (marked begins at) k ≡ list_any (λ place. place == k) (places ++ at ∷ [])
-marks_more begins places at h before k = grind (arith, common_steps, get_or-set_same, list_any-append, or_right, eq-eqb)
 
 -- ---- failures
 

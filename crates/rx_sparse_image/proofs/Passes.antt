@@ -37,21 +37,19 @@ module _ (test : ℕ → Result ℕ Kind) (order : Order) (count : ℕ) (bytes :
   abbrev words : List ℕ
   words = words_in order count bytes
 
-  len : length words ≡ count
-  len = length-map-range_with_len (word_at order bytes) 0 count
-
   here : (k : ℕ) → k < count → slice_index words k ≡ word_at order bytes k
   here k h = get_or-map-range_with_len (word_at order bytes) 0 count k k 0 h (omega arith)
 
   pub words_pass : ((k : ℕ) → k < count → test (word_at order bytes k) ≡ Ok (word_at order bytes k))
       → each_passes test words ≡ Ok (length words)
-  words_pass passed = grind (arith, common_steps, all_pass, len, here)
+  words_pass passed =
+      grind (arith, common_steps, all_pass, length-map-range_with_len (word_at order bytes) 0 count, here)
 
   pub words_fail : (i : ℕ) (kind : Kind) → i < count
       → ((k : ℕ) → k < i → test (word_at order bytes k) ≡ Ok (word_at order bytes k))
       → test (word_at order bytes i) ≡ Err kind → each_passes test words ≡ Err kind
   words_fail i kind h passed fails =
-      one_fails test words i kind (omega (arith, len))
+      one_fails test words i kind (omega (arith, length-map-range_with_len (word_at order bytes) 0 count))
       (λ k b. let low : k < count = omega arith in
       subst (λ n. test n ≡ Ok n) (sym (here k low)) (passed k b))
       (ap test (here i h) ∙ fails)

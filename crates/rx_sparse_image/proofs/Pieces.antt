@@ -29,8 +29,7 @@ pub row_sizes : (order : Order) (row : Row)
     + length (patterns_text order row.patterns) + length (length row.needles ∷ row.needles)
     ≡ row_len row
 row_sizes order row =
-    let needles : List ℕ = length row.needles ∷ row.needles in
-    let t3 : List ℕ = patterns_text order row.patterns ++ needles in
+    let t3 : List ℕ = patterns_text order row.patterns ++ (length row.needles ∷ row.needles) in
     let t2 : List ℕ = words_text order (next_ids row) ++ t3 in
     omega (
       arith,
@@ -39,7 +38,7 @@ row_sizes order row =
       length-field_16 order (head_number row),
       length-append (ends_text row.ranges) t2,
       length-append (words_text order (next_ids row)) t3,
-      length-append (patterns_text order row.patterns) needles,
+      length-append (patterns_text order row.patterns) (length row.needles ∷ row.needles),
     )
 
 size_is : (order : Order) (patterns behind : List ℕ) → patterns_in order (is_some_list patterns) behind ≡ patterns
@@ -72,8 +71,7 @@ module _ {order : Order} {bytes : List ℕ} (whole : IsWholeRow order bytes) whe
 
   pub head_there : number order w16 (take 2 bytes) ≡ head_number row
   head_there =
-      let t3 : List ℕ = patterns_text order row.patterns ++ needles in
-      let t2 : List ℕ = words_text order (next_ids row) ++ t3 in
+      let t2 : List ℕ = words_text order (next_ids row) ++ (patterns_text order row.patterns ++ needles) in
       let t1 : List ℕ = ends_text row.ranges ++ t2 in
       let text : List ℕ = field order w16 (head_number row) in
       ap (λ t. number order w16 (take 2 t)) (whole.stands ∙ append_assoc text t1 whole.rest)
@@ -89,19 +87,17 @@ module _ {order : Order} {bytes : List ℕ} (whole : IsWholeRow order bytes) whe
   behind_is : behind ≡ patterns_text order row.patterns ++ (needles ++ whole.rest)
   behind_is = ap (rest_in order) whole.stands ∙ rest_is order row whole.rest whole.fits
 
-  match_is : is_match_in order bytes ≡ is_some_list row.patterns
-  match_is = ap (is_match_in order) whole.stands ∙ matches_is order row whole.rest whole.fits
-
   size_there : size ≡ length (patterns_text order row.patterns)
   size_there =
-      ap₂ (λ m t. patterns_len order m t) match_is behind_is
+      ap₂ (λ m t. patterns_len order m t)
+      (ap (is_match_in order) whole.stands ∙ matches_is order row whole.rest whole.fits) behind_is
       ∙ size_is order row.patterns (patterns_text order row.patterns ++ (needles ++ whole.rest))
       (patterns_are order row whole.rest whole.fits)
 
   pub patterns_there : take size behind ≡ patterns_text order row.patterns
   patterns_there = grind (arith, common_steps, size_there, behind_is)
 
-  after_is : after ≡ needles ++ whole.rest
+  pub after_is : after ≡ needles ++ whole.rest
   after_is = grind (arith, common_steps, size_there, behind_is)
 
   pub size_low : size < length behind
@@ -112,9 +108,6 @@ module _ {order : Order} {bytes : List ℕ} (whole : IsWholeRow order bytes) whe
 
   pub size_within : size ≤ length behind
   size_within = omega (arith, size_low)
-
-  pub after_low : 0 < length after
-  after_low = omega (arith, ap length after_is)
 
   pub needles_low : 1 + slice_index after 0 ≤ length after
   needles_low = omega (arith, needle_count, ap length after_is, length-append needles whole.rest)

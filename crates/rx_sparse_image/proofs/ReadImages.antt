@@ -3,7 +3,7 @@
 use Rattle.rx_spec.proofs.Prelude.{arith, ◌≡◌, ℕ, true, false, Ok, Err, List, refl, sym, subst, ◌∙◌, common_steps}
 use Rattle.rx_spec.proofs.Prelude.{ne_eqb}
 use Rattle.rx_wire.specs.Kinds.{Kind}
-use Rattle.rx_sparse.specs.Layouts.{Layout, row_count}
+use Rattle.rx_sparse.specs.Layouts.{row_count}
 use Rattle.rx_sparse.specs.Parts.{AreParts as ArePartsOf}
 use Rattle.rx_sparse.specs.Rows.{Row, rows_in}
 use Rattle.rx_sparse.proofs.RowPlaces.{length-rows_in}
@@ -20,9 +20,6 @@ use Rattle.rx_sparse_image.proofs.ShapedImages.{shaped}
 
 -- ---- another number of rows
 
-miscounted : (told : ℕ) (l : Layout) → (row_count l ≡ told → ⊥) → is_closed told l ≡ false
-miscounted told l h = rw (ne_eqb (row_count l) told h) refl
-
 refused : (bytes rest : List ℕ) (p : Parts) (rows : List Row) → parts_at bytes ≡ Ok (p, rest)
     → rows_at (bounds_of p) p.bytes.rows ≡ Ok rows → is_closed p.bytes.state_len (layout_of p rows) ≡ false
     → reads bytes ≡ Err Kind.Generic
@@ -37,8 +34,8 @@ miscounted_image bytes rest i b count there bounds read other =
     let rows : List Row = rows_in b.order count i.rows.now in
     refused bytes rest (seen_image i) rows there
     (subst (λ (x : Bounds). rows_at x i.rows.now ≡ Ok rows) bounds read)
-    (miscounted i.parts.state_len (layout_of (seen_image i) rows)
-    (λ e. other (sym (length-rows_in b.order count i.rows.now) ∙ e)))
+    (rw (ne_eqb (row_count (layout_of (seen_image i) rows)) i.parts.state_len
+    (λ e. other (sym (length-rows_in b.order count i.rows.now) ∙ e))) refl)
 
 -- ---- as many rows as were told
 
@@ -54,12 +51,9 @@ module _ (i : Image) (b : Bounds) (count : ℕ) (read : IsReadImage i) (walked :
   whole_rows : AreWholeRows i.parts.order i.parts.state_len i.rows.now
   whole_rows = grind (arith, common_steps)
 
-  tested_rows : AreTestedRows (bounds_of (seen_image i)) (rows_in i.parts.order i.parts.state_len i.rows.now)
-  tested_rows = grind (arith, common_steps)
-
   pub image_whole : IsWhole (image_layout i)
   image_whole = record {
-    read = is_read i read tested_rows;
+    read = is_read i read (grind (arith, common_steps));
     closed =
         subst (λ told. is_closed told (image_layout i) ≡ true)
         (sym (length-rows_in i.parts.order i.parts.state_len i.rows.now)) closed;

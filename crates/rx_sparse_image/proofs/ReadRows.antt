@@ -93,11 +93,9 @@ words_ok : (test : ℕ → Result ℕ Kind) (order : Order) (count : ℕ) (bytes
     → each_passes test (words_in order count bytes) ≡ Ok passed
     → (k : ℕ) → k < count → (m : ℕ) × (test (word_at order bytes k) ≡ Ok m)
 words_ok test order count bytes passed e k h =
-    let none : 0 + k ≡ k = omega arith in
-    let here = get_or-map-range_with_len (word_at order bytes) 0 count k k 0 h none in
     let len = length-map-range_with_len (word_at order bytes) 0 count in
     let p = each_ok test (words_in order count bytes) passed e k (omega arith) in
-    (p.0, ap test (sym here) ∙ p.1)
+    (p.0, ap test (sym (get_or-map-range_with_len (word_at order bytes) 0 count k k 0 h (omega arith))) ∙ p.1)
 
 -- a number that passed two tests
 two_ok : (s t : Bool) (first second : Kind) (n m : ℕ)
@@ -204,8 +202,7 @@ module _ (b : Bounds) (bytes after : List ℕ) where
       let count : ℕ = word_at b.order bytes 0 in
       let behind : List ℕ = drop 4 bytes in
       let front : List ℕ = take (4 * count) behind in
-      let p = then_number _ after b.order w32 bytes e in
-      let q = then_count count _ after p.1 in
+      let q = then_count count _ after (then_number _ after b.order w32 bytes e).1 in
       let r = then_bytes _ after (4 * count) behind q.1 in
       let t = bind_ok (each_passes (tested_pattern b) (words_in b.order count front)) _ after r.1 in
       let len : length (words_in b.order count behind) ≡ count =
@@ -260,8 +257,7 @@ module _ (is_accel : Bool) (bytes : List ℕ) where
       let p = else_ok (has_count is_accel bytes) _ needles Kind.Generic e in
       let q = and_parts (ltb 0 (length bytes)) (may_have is_accel needle_count) p.0 in
       let r = bytes_ok needle_count (drop 1 bytes) needles p.1 in
-      let some = ltb-true 0 (length bytes) q.0 in
-      (record { may = q.1; long = omega (arith, length-drop 1 bytes) }, r.1)
+      (record { may = q.1; long = omega (arith, length-drop 1 bytes, ltb-true 0 (length bytes) q.0) }, r.1)
 
 -- ---- a row
 

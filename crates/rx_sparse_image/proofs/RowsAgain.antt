@@ -1,8 +1,8 @@
 -- Rows that can pass the tests are read again from their bytes.
 use Rattle.rx_spec.proofs.Prelude.{common_steps, [], ◌≡◌, ℕ, zero, suc, ◌+◌, ◌-◌, ◌*◌, ◌^◌, ◌<◌, ◌≤◌, Bool, true, false}
-use Rattle.rx_spec.proofs.Prelude.{not, ◌||◌, ◌==◌, if◌then◌else◌, leb, ltb, List, ◌∷◌, ◌++◌, length, get_or}
-use Rattle.rx_spec.proofs.Prelude.{slice_index, Ok, Err, refl, ap, ap₂, sym, ◌∙◌, append_assoc, arith, w16, w32}
-use Rattle.rx_spec.proofs.Prelude.{and_from, le-leb, lt-ltb, ne_eqb, or_right, length-append, max_id, id_of}
+use Rattle.rx_spec.proofs.Prelude.{◌||◌, ◌==◌, ltb, List, ◌∷◌, ◌++◌, length, get_or, slice_index, Ok, refl, ap, ap₂}
+use Rattle.rx_spec.proofs.Prelude.{sym, ◌∙◌, append_assoc, arith, w16, w32, and_from, le-leb, lt-ltb, ne_eqb, or_right}
+use Rattle.rx_spec.proofs.Prelude.{length-append, max_id, id_of}
 use Rattle.rx_wire.specs.declared.order.Order.{Order}
 use Rattle.rx_wire.specs.Fields.{bytes_at, field}
 use Rattle.rx_wire.specs.Kinds.{Kind}
@@ -17,12 +17,10 @@ use Rattle.rx_sparse.proofs.DecodedRows.{range_is}
 use Rattle.rx_sparse.proofs.RowTexts.{ends_is, length-ends, length-next_ids, length-row, length-rows, counted}
 use Rattle.rx_sparse.proofs.RowTexts.{row_again, told}
 use Rattle.rx_sparse_image.specs.declared.walk.Bounds.{Bounds}
-use Rattle.rx_sparse_image.specs.Tested.{AreTestedRows, IsTestedRow}
+use Rattle.rx_sparse_image.specs.Tested.{IsTestedRow}
 use Rattle.rx_sparse_image.specs.Walks.{after_patterns_if, ends_at, head_at, is_match_head, is_range_at, needles_at}
-use Rattle.rx_sparse_image.specs.Walks.{next_ids_at, range_count, row_at, rows_at, rows_from, tested, tested_count}
-use Rattle.rx_sparse_image.specs.Walks.{tested_next}
+use Rattle.rx_sparse_image.specs.Walks.{next_ids_at, range_count, row_at, rows_from, tested, tested_next}
 use Rattle.rx_sparse_image.proofs.PassedRows.{none_left, row_first}
-use Rattle.rx_sparse_image.proofs.Sizes.{rows_few}
 use Rattle.rx_sparse_image.proofs.Passes.{next_ids_pass, patterns_pass}
 use Rattle.rx_sparse_image.proofs.TestedRows.{fits_tested, regroup}
 
@@ -32,15 +30,6 @@ use Rattle.rx_sparse_image.proofs.TestedRows.{fits_tested, regroup}
 pass : (holds : Bool) (kind : Kind) (n : ℕ) → holds ≡ true → tested holds kind n ≡ Ok n
 pass true kind n h = refl
 pass false kind n h = absurd cc
-
--- a number that passes two tests
-both_pass : (s t : Bool) (first second : Kind) (n : ℕ) → s ≡ true → t ≡ true
-    → (if not s then Err first else (if t then Ok n else Err second)) ≡ Ok n
-both_pass s t first second n hs ht = rw (hs, ht) refl
-
--- a count that is not 0 passes
-count_pass : (n : ℕ) → 1 ≤ n → tested_count n ≡ Ok n
-count_pass n h = rw (ne_eqb n 0 (λ e. (omega arith))) refl
 
 -- ---- words
 
@@ -86,14 +75,6 @@ module _ (b : Bounds) (at : ℕ) (row : Row) (is : IsTestedRow b at row) where
   few : count ≤ 257
   few = let most = is.few in omega arith
 
-  -- the head tells how many
-  count_is : range_count n ≡ count
-  count_is = counted count (is_some_list row.patterns) few
-
-  -- and whether there are patterns
-  mark_is : is_match_head n ≡ is_some_list row.patterns
-  mark_is = told count (is_some_list row.patterns) few
-
   -- the head is read again
   head_again : (rest : List ℕ) → head_at b at (field order w16 n ++ rest) ≡ Ok (n, rest)
   unfolding head_at
@@ -110,12 +91,6 @@ module _ (b : Bounds) (at : ℕ) (row : Row) (is : IsTestedRow b at row) where
   abbrev alone : List ℕ
   alone = row_text order row ++ []
 
-  ends_alone : ends_in order alone ≡ ends
-  ends_alone = ends_is order row [] (fits_tested is)
-
-  length-ends_are : length ends ≡ 2 * count
-  length-ends_are = length-ends row.ranges
-
   -- the ends of a range by its place
   range_there : (i : ℕ) → i < length row.ranges
       → (slice_index ends (2 * i) ≡ (get_or row.ranges i no_range).first)
@@ -124,8 +99,8 @@ module _ (b : Bounds) (at : ℕ) (row : Row) (is : IsTestedRow b at row) where
       let again : row_in order alone ≡ row = row_again order row [] (fits_tested is) in
       let same : range_in order (ends_in order alone) (next_ids_in order alone) i ≡ get_or row.ranges i no_range =
       range_is order (ends_in order alone) (next_ids_in order alone) i h (ap (λ r. r.ranges) again) in (
-        ap (λ e. slice_index e (2 * i)) (sym ends_alone) ∙ ap (λ r. r.first) same,
-        ap (λ e. slice_index e (2 * i + 1)) (sym ends_alone) ∙ ap (λ r. r.last) same,
+        ap (λ e. slice_index e (2 * i)) (sym (ends_is order row [] (fits_tested is))) ∙ ap (λ r. r.first) same,
+        ap (λ e. slice_index e (2 * i + 1)) (sym (ends_is order row [] (fits_tested is))) ∙ ap (λ r. r.last) same,
       )
 
   -- it passes its test
@@ -134,7 +109,6 @@ module _ (b : Bounds) (at : ℕ) (row : Row) (is : IsTestedRow b at row) where
       let low : i < length row.ranges = omega arith in
       let here = range_there i low in
       let first : ℕ = slice_index ends (2 * i) in
-      let last : ℕ = slice_index ends (2 * i + 1) in
       let begins : Bool = (i == 0) || ltb (slice_index ends (2 * i - 1)) first in
       grind (arith, common_steps, and_from, le-leb, behind)
     where
@@ -152,31 +126,25 @@ module _ (b : Bounds) (at : ℕ) (row : Row) (is : IsTestedRow b at row) where
             (range_there i (omega arith)).1,
             (range_there (suc i) h).0,
             ap (λ k. (get_or row.ranges k no_range).first) more,
-            is.rising i (omega arith),
+            is.rising i (omega (arith, slice_index ends (2 * i + 1))),
           )))
 
   -- the ends are read again
   ends_again : (rest : List ℕ) → ends_at b count (ends ++ rest) ≡ Ok (ends, rest)
   unfolding ends_at
-  ends_again rest = grind (arith, common_steps, and_from, all_of, range_may, front_there, length-ends_are)
+  ends_again rest = grind (arith, common_steps, and_from, all_of, range_may, front_there, length-ends row.ranges)
 
   -- ---- next ids
-
-  id_small : (i : ℕ) → i < length (next_ids row) → slice_index (next_ids row) i < 2 ^ 32
-  id_small i h = omega arith
 
   -- a next id by its place
   id_there : (k : ℕ) → k < count → word_at order ids k ≡ slice_index (next_ids row) k
   id_there k h =
       let low : k < length (next_ids row) = omega (arith, length-next_ids row) in
-      word_alone order (next_ids row) k low (id_small k low)
+      word_alone order (next_ids row) k low (omega arith)
 
   -- the next ids are read again
   ids_again : (rest : List ℕ) → next_ids_at b count (ids ++ rest) ≡ Ok (ids, rest)
   ids_again rest = grind (arith, common_steps, next_ids_pass, front_there, length-words, id_there)
-
-  eoi_is : word_at order ids (count - 1) ≡ row.eoi
-  eoi_is = grind (arith, common_steps, id_there)
 
   -- ---- patterns
 
@@ -194,15 +162,13 @@ module _ (b : Bounds) (at : ℕ) (row : Row) (is : IsTestedRow b at row) where
           let words : List ℕ = words_text order all in
           ap (after_patterns_if b true) (append_assoc (field order w32 (length all)) words rest)
           ∙ patterns_pass b (length all) (field order w32 (length all) ++ (words ++ rest)) (words ++ rest) words rest
-          (count_pass (length all) (omega arith))
+          (rw (ne_eqb (length all) 0 (λ e. (omega arith))) refl)
           (u32_again order (length all) short (words ++ rest))
           (front_there words rest (4 * length all) (length-words order all))
           (λ i h.
           let id : ℕ = word_at order words i in
           let here : id ≡ slice_index all i = word_alone order all i h (omega arith) in
-          both_pass (leb id max_id) (ltb id b.pattern_len) (Kind.PatternID id) Kind.Generic id
-          (le-leb id max_id (omega arith))
-          (lt-ltb id b.pattern_len (omega arith)))
+          (rw ((le-leb id max_id (omega arith)), (lt-ltb id b.pattern_len (omega arith))) refl))
 
   -- ---- needles
 
@@ -215,7 +181,7 @@ module _ (b : Bounds) (at : ℕ) (row : Row) (is : IsTestedRow b at row) where
   -- ---- the row
 
   next_passes : (next : ℕ) → next ≤ max_id → tested_next b (word_at order ids (count - 1)) next ≡ Ok next
-  next_passes next h = grind (arith, common_steps, eoi_is)
+  next_passes next h = grind (arith, common_steps, id_there)
 
   -- the row is read again, whatever follows
   row_read : (rest : List ℕ) → at + row_len row + length rest ≡ b.len
@@ -230,7 +196,6 @@ module _ (b : Bounds) (at : ℕ) (row : Row) (is : IsTestedRow b at row) where
       let parts : bytes ≡ field order w16 n ++ t1 =
       regroup (field order w16 n) ends ids (patterns_text order row.patterns) needles rest in
       let next : ℕ = b.len - length rest in
-      let low = is.next in
       let steps : AreSteps b at bytes = record {
         head = (n, t1);
         ends = (ends, t2);
@@ -238,12 +203,13 @@ module _ (b : Bounds) (at : ℕ) (row : Row) (is : IsTestedRow b at row) where
         rest = t4;
         needles = (row.needles, rest);
         head_read = ap (head_at b at) parts ∙ head_again t1;
-        ends_read = ap (λ c. ends_at b c t1) count_is ∙ ends_again t2;
-        ids_read = ap (λ c. next_ids_at b c t2) count_is ∙ ids_again t3;
-        rest_read = ap (λ m. after_patterns_if b m t3) mark_is ∙ patterns_again t4;
+        ends_read = ap (λ c. ends_at b c t1) (counted count (is_some_list row.patterns) few) ∙ ends_again t2;
+        ids_read = ap (λ c. next_ids_at b c t2) (counted count (is_some_list row.patterns) few) ∙ ids_again t3;
+        rest_read = ap (λ m. after_patterns_if b m t3) (told count (is_some_list row.patterns) few) ∙ patterns_again t4;
         needles_read = needles_again rest;
         next_passes =
-            ap (λ c. tested_next b (word_at order ids (c - 1)) next) count_is ∙ next_passes next (omega arith);
+            ap (λ c. tested_next b (word_at order ids (c - 1)) next) (counted count (is_some_list row.patterns) few) ∙
+            next_passes next (omega (arith, is.next));
       } in
       steps_pass steps
       ∙ ap (λ r. Ok (r, rest)) (row_again order row rest (fits_tested is))
@@ -251,7 +217,7 @@ module _ (b : Bounds) (at : ℕ) (row : Row) (is : IsTestedRow b at row) where
 -- ---- all rows
 
 -- rows from one on are read again
-rows_read : (b : Bounds) (at : ℕ) (rows : List Row) (most : ℕ) → length rows ≤ most → at + rows_len rows ≡ b.len
+pub rows_read : (b : Bounds) (at : ℕ) (rows : List Row) (most : ℕ) → length rows ≤ most → at + rows_len rows ≡ b.len
     → ((i : ℕ) → i < length rows → IsTestedRow b (id_of (offsets_from at rows) i) (get_or rows i no_row))
     → rows_from b most (rows_text b.order rows) ≡ Ok rows
 unfolding offsets_from rows_len
@@ -259,20 +225,11 @@ rows_read b at [] most h place each = none_left b most
 rows_read b at (row ∷ rows) zero h place each = absurd (omega arith)
 rows_read b at (row ∷ rows) (suc most) h place each =
     let rest : List ℕ = rows_text b.order rows in
-    let text : List ℕ = row_text b.order row ++ rest in
-    let size : length text ≡ row_len row + rows_len rows =
+    let size : length (row_text b.order row ++ rest) ≡ row_len row + rows_len rows =
     length-append (row_text b.order row) rest
     ∙ ap₂ (λ m n. m + n) (length-row b.order row) (length-rows b.order rows) in
-    let here : b.len - length text ≡ at = omega arith in
-    let first : row_at b at text ≡ Ok (row, rest) =
+    let first : row_at b at (row_text b.order row ++ rest) ≡ Ok (row, rest) =
     row_read b at row (each 0 (omega arith)) rest (omega (arith, length-rows b.order rows)) in
     let behind : rows_from b most rest ≡ Ok rows =
     rows_read b (at + row_len row) rows most (omega arith) (omega arith) (λ i l. each (suc i) (omega arith)) in
     grind (arith, common_steps, row_first)
-
--- rows that can pass the tests are read again
-pub rows_again_read : (b : Bounds) (rows : List Row) → AreTestedRows b rows
-    → rows_at b (rows_text b.order rows) ≡ Ok rows
-rows_again_read b rows are =
-    rows_read b 0 rows (length (rows_text b.order rows)) (omega (arith, length-rows b.order rows, rows_few rows))
-    (omega arith) are.each

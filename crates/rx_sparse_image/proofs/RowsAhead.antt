@@ -44,10 +44,5 @@ module _ {order : Order} {count : ℕ} {bytes : List ℕ} (are : AreWholeRows or
   pub second_here : 2 ≤ count → {rest : List ℕ} → rest ≡ drop (row_len (row_in order bytes)) bytes
       → length bytes - length rest ≡ id_of (offsets (rows_in order count bytes)) 1
   second_here two behind =
-      let first : 0 < count = omega arith in
-      let more : 1 < count = omega arith in
-      place_here 1 more (behind ∙ next_here 0 first all_ahead)
-      ∙ sym (offset_at 0 rows 1 (omega (arith, length-rows_in order count bytes)) ∙ none (rows_len (take 1 rows)))
-    where
-      none : (n : ℕ) → 0 + n ≡ n
-      none n = omega arith
+      place_here 1 (omega arith) (behind ∙ next_here 0 (omega arith) all_ahead)
+      ∙ sym (offset_at 0 rows 1 (omega (arith, length-rows_in order count bytes)) ∙ (omega arith))

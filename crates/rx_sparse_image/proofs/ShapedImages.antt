@@ -1,10 +1,10 @@
 -- A layout that is read and closed has the shape of every sparse table.
-use Rattle.rx_spec.proofs.Prelude.{common_steps, ◌≡◌, ℕ, ◌+◌, ◌-◌, ◌*◌, ◌<◌, ◌≤◌, nat_le, length, take, slice_index}
-use Rattle.rx_spec.proofs.Prelude.{sym, ap, subst, ◌∙◌, arith, take-length, and_parts, leb-true, max_id, id_of}
+use Rattle.rx_spec.proofs.Prelude.{common_steps, ◌≡◌, ℕ, ◌+◌, ◌-◌, ◌*◌, ◌<◌, ◌≤◌, nat_le, length, take, sym, ap, subst}
+use Rattle.rx_spec.proofs.Prelude.{◌∙◌, arith, take-length, and_parts, leb-true, max_id, id_of}
 use Rattle.rx_search.specs.Starts.{IsId}
 use Rattle.rx_dense_image.proofs.ShapedImages.{few_starts}
 use Rattle.rx_sparse.specs.Rows.{rows_len}
-use Rattle.rx_sparse.specs.Layouts.{AreRanges, AreRows, AreStarts, IsRow, IsShaped, Layout, ids_of, row_at, row_count}
+use Rattle.rx_sparse.specs.Layouts.{AreRows, IsRow, IsShaped, Layout, ids_of, row_at, row_count}
 use Rattle.rx_sparse.specs.Facts.{offset_at, rows_len-more}
 use Rattle.rx_sparse_image.specs.Tested.{IsRead, IsTestedRow, IsWhole, bounds_in}
 use Rattle.rx_sparse_image.proofs.ClosedRows.{AreClosed, closed, eoi_leads, range_leads, valid_id}
@@ -18,24 +18,20 @@ module _ (l : Layout) (read : IsRead l) (facts : AreClosed l) where
   few_bytes =
       let row : ℕ = row_count l - 1 in
       let h : row < row_count l = omega arith in
-      let last : row + 1 ≡ row_count l = omega arith in
-      let all : take (row + 1) l.rows ≡ l.rows = ap (λ (n : ℕ). take n l.rows) last ∙ take-length l.rows in
+      let all : take (row + 1) l.rows ≡ l.rows = ap (λ (n : ℕ). take n l.rows) (omega arith) ∙ take-length l.rows in
       omega (arith, (tested row h).next, offset_at 0 l.rows row h, rows_len-more l.rows row h, ap rows_len all)
 
   pub few_needles : (row : ℕ) → row < row_count l → length (row_at l row).needles ≤ 3
   few_needles row h = leb-true _ _ (and_parts (nat_le (length (row_at l row).needles) 3) _ (tested row h).needles).0
-
-  ranges_shaped : (row : ℕ) → row < row_count l → AreRanges l.classes (row_at l row).ranges
-  ranges_shaped row h =
-      let t = tested row h in
-      record { few = t.few; ordered = t.ordered; within = t.within; rising = t.rising }
 
   row_shaped : (row : ℕ) → row < row_count l → IsRow l row
   row_shaped row h =
       let t = tested row h in
       let nexts = (facts.rows row h).nexts in
       record {
-        ranges = ranges_shaped row h;
+        ranges =
+            let t = tested row h in
+            record { few = t.few; ordered = t.ordered; within = t.within; rising = t.rising };
         nexts = range_leads (IsId (ids_of l)) (row_at l row) nexts;
         eoi = eoi_leads (IsId (ids_of l)) (row_at l row) nexts;
         matches = t.matches;
@@ -46,25 +42,19 @@ module _ (l : Layout) (read : IsRead l) (facts : AreClosed l) where
   rows_shaped : AreRows l
   rows_shaped = record { classes = read.classes; two = facts.two; few = few_bytes; rows = row_shaped }
 
-  start_row : (k : ℕ) → k < length l.starts → IsId (ids_of l) (slice_index l.starts k)
-  start_row k h = grind (arith, common_steps, valid_id)
-
-  starts_shaped : AreStarts l
-  starts_shaped = record {
-    contexts = read.table.contexts;
-    count = read.table.count;
-    small =
-        subst (λ (n : ℕ). n ≤ 12 + 6 * (max_id + 1)) (sym read.table.count)
-        (few_starts l.pattern_starts read.table.patterns);
-    start_ids = start_row;
-    universal_unanchored = facts.universal_unanchored;
-    universal_anchored = facts.universal_anchored;
-  }
-
   pub shaped_of : IsShaped l
   shaped_of = record {
     rows = rows_shaped;
-    starts = starts_shaped;
+    starts = record {
+      contexts = read.table.contexts;
+      count = read.table.count;
+      small =
+          subst (λ (n : ℕ). n ≤ 12 + 6 * (max_id + 1)) (sym read.table.count)
+          (few_starts l.pattern_starts read.table.patterns);
+      start_ids = λ k h. grind (arith, common_steps, valid_id);
+      universal_unanchored = facts.universal_unanchored;
+      universal_anchored = facts.universal_anchored;
+    };
     few_patterns = (let few = read.few_patterns in omega arith);
   }
 

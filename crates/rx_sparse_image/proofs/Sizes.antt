@@ -24,16 +24,14 @@ length-row_bytes order l classes = grind (arith, common_steps, length-rows)
 pub length-text : (order : Order) (l : Layout) → IsShaped l → length (text order l) ≡ image_len l
 unfolding text
 length-text order l shaped =
-    let classes = shaped.rows.classes.count in
     let t3 : List ℕ = special_text order l.special ++ quit_text order l.quit in
     let t2 : List ℕ = start_table_text order (start_table_of l) ++ t3 in
-    let t1 : List ℕ = row_bytes_text order l ++ t2 in
     omega (
       arith,
-      length-append (head_text order sparse_label l.flags) t1,
+      length-append (head_text order sparse_label l.flags) (row_bytes_text order l ++ t2),
       length-head order sparse_label l.flags refl,
       length-append (row_bytes_text order l) t2,
-      length-row_bytes order l classes,
+      length-row_bytes order l shaped.rows.classes.count,
       length-append (start_table_text order (start_table_of l)) t3,
       length-start_table order (start_table_of l) shaped.starts.contexts,
       length-append (special_text order l.special) (quit_text order l.quit),

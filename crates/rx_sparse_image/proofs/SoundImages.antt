@@ -43,14 +43,8 @@ module _ (l : Layout) (read : IsRead l) (facts : AreClosed l) where
   first_row : 0 < row_count l
   first_row = let two = facts.two in omega arith
 
-  second_row : 1 < row_count l
-  second_row = let two = facts.two in omega arith
-
   abbrev table : IdTable
   table = id_table l shape facts.quit
-
-  row_zero : row_of ids 0 ≡ 0
-  row_zero = zero_row l.rows first_row
 
   -- ---- labels
 
@@ -58,15 +52,6 @@ module _ (l : Layout) (read : IsRead l) (facts : AreClosed l) where
   not_empty row h e =
       let m = patterns_of table row [] e in
       some_list (row_at l row).patterns (sym (tested l read facts row h).matches ∙ m.0) m.1
-
-  known_patterns : (row : ℕ) (ks : List ℕ) (k : ℕ) → row < row_count l
-      → (table_of l).machine.label row ≡ Label.Matches ks → Contains ks k → k < l.pattern_len
-  known_patterns row ks k h e c =
-      let known = (tested l read facts row h).known in
-      let there = subst (λ (xs : List ℕ). Contains xs k) (sym (patterns_of table row ks e).1) c in
-      let is : slice_index (row_at l row).patterns there.0 ≡ k =
-      get_or_default (row_at l row).patterns there.0 0 k there.1 ∙ there.2 in
-      omega arith
 
   -- ---- next rows
 
@@ -87,24 +72,18 @@ module _ (l : Layout) (read : IsRead l) (facts : AreClosed l) where
       λ i b. eqb-true _ _ (each_at (λ id. eqb id 0) (next_ids r) i all b) in
       unit_leads (λ id. id ≡ 0) refl r (range_leads (λ id. id ≡ 0) r each) (eoi_leads (λ id. id ≡ 0) r each)
       l.classes unit in
-      ap (row_of ids) dead ∙ row_zero
+      ap (row_of ids) dead ∙ (zero_row l.rows first_row)
 
   dead_ends : (unit : ℕ) → row_of ids (next_id l.classes (row_at l 0) unit) ≡ 0
   dead_ends unit = ends 0 unit first_row (let dead : eqb (id_of ids 0) 0 ≡ true = eq-eqb _ _ table.dead in rw dead refl)
 
   quit_ends : (unit : ℕ) → row_of ids (next_id l.classes (row_at l 1) unit) ≡ 0
   quit_ends unit =
-      let quit : eqb (id_of ids 1) l.special.quit ≡ true = eq-eqb _ _ (sym facts.quit) in
-      ends 1 unit second_row (or_last (eqb (id_of ids 1) 0) _ quit)
+      ends 1 unit (let two = facts.two in omega arith) (or_last (eqb (id_of ids 1) 0) _ (eq-eqb _ _ (sym facts.quit)))
     where
       or_last : (a b : Bool) → b ≡ true → (a || b) ≡ true
       or_last true b e = refl
       or_last false b e = e
-
-  eoi_apart : (row : ℕ) → row < row_count l → row_of ids (row_at l row).eoi ≢ 1
-  eoi_apart row h e =
-      let is : IsId ids (row_at l row).eoi = next_is row 256 h in
-      grind (arith, common_steps, id_at_row)
 
   -- ---- start rows
 
@@ -130,7 +109,7 @@ module _ (l : Layout) (read : IsRead l) (facts : AreClosed l) where
   starts_plain =
       start_is l.starts l.pattern_starts shape.starts.count
       (λ id. (table_of l).machine.label (row_of ids id) ≡ Label.Plain)
-      (ap (table_of l).machine.label row_zero ∙ dead_label table read.special) plain_start
+      (ap (table_of l).machine.label (zero_row l.rows first_row) ∙ dead_label table read.special) plain_start
 
   past_last : (n k : ℕ) (start : Start) → l.pattern_starts ≡ Some n → n ≤ k
       → row_of ids (start_id l (Anchored.Pattern k) start) ≡ 0
@@ -140,7 +119,7 @@ module _ (l : Layout) (read : IsRead l) (facts : AreClosed l) where
       let past : ltb (12 + 6 * k) (length l.starts) ≡ false = le-ltb _ _ (omega arith) in
       let none : start_id l (Anchored.Pattern k) start ≡ 0 =
       ap (λ (b : Bool). cond b (slice_index l.starts (12 + 6 * k + context_number start)) 0) past in
-      ap (row_of ids) none ∙ row_zero
+      ap (row_of ids) none ∙ (zero_row l.rows first_row)
 
   universal_below : (o : Option ℕ) → IfSome o (IsId ids) → (row : ℕ) → option_map (row_of ids) o ≡ Some row
       → row < row_count l
@@ -152,12 +131,11 @@ module _ (l : Layout) (read : IsRead l) (facts : AreClosed l) where
   needles_are : (row : ℕ) → row < row_count l → is_accel_id l.special (id_of ids row) ≡ true
       → (row_at l row).needles ≡ leaving (table_of l) row
   needles_are row h accel =
-      let id : ℕ = id_of ids row in
       let r : Row = row_at l row in
-      let all : List ℕ = closing.leaving l.classes id r in
+      let all : List ℕ = closing.leaving l.classes (id_of ids row) r in
       let equal : bytes_eq r.needles all ≡ true =
       sym (ap (λ (b : Bool). cond b (bytes_eq r.needles all) true) accel) ∙ (facts.rows row h).needles in
-      (bytes_eq-Decides r.needles all).0 equal ∙ leaving_is l.classes id r ∙ leaving_same table row h
+      (bytes_eq-Decides r.needles all).0 equal ∙ leaving_is l.classes (id_of ids row) r ∙ leaving_same table row h
 
   needle_count : (row : ℕ) → row < row_count l
       → cond (is_accel_id l.special (id_of ids row)) (ltb 0 (length (row_at l row).needles))
@@ -167,10 +145,6 @@ module _ (l : Layout) (read : IsRead l) (facts : AreClosed l) where
   some_needle : (row : ℕ) → row < row_count l → is_accel_id l.special (id_of ids row) ≡ true
       → 1 ≤ length (row_at l row).needles
   some_needle row h accel = grind (arith, common_steps)
-
-  no_needle : (row : ℕ) → row < row_count l → is_accel_id l.special (id_of ids row) ≡ false
-      → (row_at l row).needles ≡ []
-  no_needle row h accel = grind (arith, common_steps, needle_count, eqb-true)
 
   -- ---- special rows
 
@@ -201,13 +175,20 @@ module _ (l : Layout) (read : IsRead l) (facts : AreClosed l) where
   pub sound_of : IsSoundLayout l
   sound_of = record {
     is_table = is_table_of;
-    eoi_goes_on = eoi_apart;
+    eoi_goes_on = λ row h e.
+        let is : IsId ids (row_at l row).eoi = next_is row 256 h in
+        grind (arith, common_steps, id_at_row);
     starts_plain = starts_plain;
-    patterns = known_patterns;
+    patterns = λ row ks k h e c.
+        let known = (tested l read facts row h).known in
+        let there = subst (λ (xs : List ℕ). Contains xs k) (sym (patterns_of table row ks e).1) c in
+        let is : slice_index (row_at l row).patterns there.0 ≡ k =
+        get_or_default (row_at l row).patterns there.0 0 k there.1 ∙ there.2 in
+        omega arith;
     needles = needles_are;
     some_needle = some_needle;
     few_needles = λ row h accel. few_needles l read facts row h;
-    no_needle = no_needle;
+    no_needle = λ row h accel. grind (arith, common_steps, needle_count, eqb-true);
     special = λ row h. special_is table read.special row h (named row h);
   }
 

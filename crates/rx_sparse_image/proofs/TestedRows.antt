@@ -18,8 +18,8 @@ use Rattle.rx_sparse.proofs.RowTexts.{length-row}
 use Rattle.rx_sparse_image.specs.declared.walk.Bounds.{Bounds}
 use Rattle.rx_sparse_image.specs.Tested.{IsTestedRow}
 use Rattle.rx_sparse_image.specs.Walks.{is_range_at, may_have, row_at}
-use Rattle.rx_sparse_image.proofs.DecodedBytes.{ends_are, field16_is, field32_is, nexts_are, number16_below, word_below}
-use Rattle.rx_sparse_image.proofs.DecodedBytes.{words_are}
+use Rattle.rx_sparse_image.proofs.DecodedBytes.{ends_are, field16_is, field32_is, nexts_are, number16_below, words_are}
+use Rattle.rx_sparse_image.proofs.DecodedBytes.{number32_below}
 use Rattle.rx_sparse_image.proofs.ReadRows.{IsReadRow, behind_patterns, head_word, row_ok}
 
 -- ---- numbers of a head
@@ -45,11 +45,9 @@ patterns_are : (order : Order) (is_match : Bool) (bytes : List ℕ) → AreBytes
 patterns_are order false bytes are long e = refl
 patterns_are order true bytes are long e =
     let n : ℕ = word_at order bytes 0 in
-    let patterns : List ℕ = words_in order n (drop 4 bytes) in
-    let count : length patterns ≡ n = length-map-range_with_len (word_at order (drop 4 bytes)) 0 n in
-    some_text order patterns e
+    some_text order (words_in order n (drop 4 bytes)) e
     ∙ ap₂ (λ (s t : List ℕ). s ++ t)
-    (ap (field order w32) count
+    (ap (field order w32) (length-map-range_with_len (word_at order (drop 4 bytes)) 0 n)
     ∙ field32_is order (take 4 bytes) (All-take (λ x. x < 256) 4 bytes are)
     (length-take-le 4 bytes (omega arith)))
     (words_are order n (drop 4 bytes) (All-drop (λ x. x < 256) 4 bytes are) (omega (arith, length-drop 4 bytes)))
@@ -63,7 +61,8 @@ patterns_few order true bytes are =
     omega (
       arith,
       length-map-range_with_len (word_at order (drop 4 bytes)) 0 (word_at order bytes 0),
-      word_below order bytes are 0,
+      number32_below order (take 4 (drop (4 * 0) bytes))
+          (All-take (λ b. b < 256) 4 (drop (4 * 0) bytes) (All-drop (λ b. b < 256) (4 * 0) bytes are)),
     )
 
 -- ---- a row
@@ -115,13 +114,9 @@ module _ (b : Bounds) (at : ℕ) (bytes rest : List ℕ) (are : AreBytes bytes)
 
   -- ---- lengths of parts
 
-  -- the ends have two bytes each
-  length-ends_in : length ends ≡ 2 * count
-  length-ends_in = length-take-le (2 * count) (drop 2 bytes) is.ends_long
-
   -- the place of the end mark among them
   n_is : length ends / 2 - 1 ≡ count - 1
-  n_is = omega (arith, length-ends_in)
+  n_is = omega (arith, length-take-le (2 * count) (drop 2 bytes) is.ends_long)
 
   -- one range less than the head counts
   length-ranges : length row.ranges ≡ count - 1
@@ -133,28 +128,22 @@ module _ (b : Bounds) (at : ℕ) (bytes rest : List ℕ) (are : AreBytes bytes)
 
   -- ---- what the bytes of parts are
 
-  bytes_behind : AreBytes (drop 2 bytes)
-  bytes_behind = All-drop (λ x. x < 256) 2 bytes are
-
   bytes_ids : AreBytes (behind_ends order bytes)
-  bytes_ids = All-drop (λ x. x < 256) (2 * count) (drop 2 bytes) bytes_behind
+  bytes_ids = All-drop (λ x. x < 256) (2 * count) (drop 2 bytes) (All-drop (λ x. x < 256) 2 bytes are)
 
   bytes_rest : AreBytes behind
   bytes_rest = All-drop (λ x. x < 256) (4 * count) (behind_ends order bytes) bytes_ids
-
-  front : AreBytes (take 2 bytes)
-  front = All-take (λ x. x < 256) 2 bytes are
 
   -- the head is that of the row
   head_number_is : head_number row ≡ word
   head_number_is =
       ap₂ (λ n s. n + 1 + cond s 32768 0) length-ranges is.patterns.some
-      ∙ whole_word word is_match (number16_below order (take 2 bytes) front) some refl
+      ∙ whole_word word is_match (number16_below order (take 2 bytes) (All-take (λ x. x < 256) 2 bytes are)) some refl
 
   head_text_is : field order w16 (head_number row) ≡ take 2 bytes
   head_text_is =
       ap (field order w16) head_number_is
-      ∙ field16_is order (take 2 bytes) front (length-take-le 2 bytes is.head.long)
+      ∙ field16_is order (take 2 bytes) (All-take (λ x. x < 256) 2 bytes are) (length-take-le 2 bytes is.head.long)
 
   -- what the ends say: each range passed, and the end mark is zeros
   ends_parts : ((i : ℕ) → i < count - 1 → is_range_at b.last_class ends i ≡ true)
@@ -170,7 +159,8 @@ module _ (b : Bounds) (at : ℕ) (bytes rest : List ℕ) (are : AreBytes bytes)
   ends_text_is : ends_text row.ranges ≡ ends
   ends_text_is =
       ap (λ n. ends_text (map (range_in order ends ids) (range_with_len 0 n))) n_is
-      ∙ ends_are order count ends ids some length-ends_in ends_parts.1 ends_parts.2
+      ∙ ends_are order count ends ids some (length-take-le (2 * count) (drop 2 bytes) is.ends_long) ends_parts.1
+      ends_parts.2
 
   next_ids_is : next_ids row ≡ words_in order count ids
   next_ids_is = grind (arith, common_steps, n_is, nexts_are)
@@ -241,22 +231,6 @@ module _ (b : Bounds) (at : ℕ) (bytes rest : List ℕ) (are : AreBytes bytes)
         let q = and_parts (leb first last) (leb last b.last_class) p.0 in
         (leb-true first last q.0, leb-true last b.last_class q.1, p.1)
 
-  -- a range begins behind the one before it
-  rising : (i : ℕ) → i + 1 < length row.ranges
-      → (get_or row.ranges i no_range).last < (get_or row.ranges (i + 1) no_range).first
-  rising i h =
-      let low : i < length row.ranges = omega arith in
-      let before : 2 * (i + 1) - 1 ≡ 2 * i + 1 = omega arith in
-      let here : ℕ = slice_index ends (2 * (i + 1)) in
-      let p = or_cases (i + 1 == 0) (ltb (slice_index ends (2 * (i + 1) - 1)) here) (range_tests (i + 1) h).2 in
-      let less : slice_index ends (2 * (i + 1) - 1) < here =
-      ⊎_elim
-      (λ (zero : (i + 1 == 0) ≡ true). absurd (omega (arith, eqb-true (i + 1) 0 zero)))
-      (λ (lt : ltb (slice_index ends (2 * (i + 1) - 1)) here ≡ true).
-      ltb-true (slice_index ends (2 * (i + 1) - 1)) here lt)
-      p in
-      grind (arith, common_steps, range_is)
-
   module _ (i : ℕ) (h : i < length (next_ids row)) where
     id_low : i < count
     id_low = omega (arith, ap length next_ids_is, length-map-range_with_len (word_at order ids) 0 count)
@@ -276,7 +250,18 @@ module _ (b : Bounds) (at : ℕ) (bytes rest : List ℕ) (are : AreBytes bytes)
     ordered = λ i h.
         omega (arith, (range_tests i h).0, ap (λ r. r.first) (range_is i h), ap (λ r. r.last) (range_is i h));
     within = λ i h. omega (arith, (range_tests i h).1, ap (λ r. r.last) (range_is i h));
-    rising = rising;
+    rising = λ i h.
+        let low : i < length row.ranges = omega arith in
+        let before : 2 * (i + 1) - 1 ≡ 2 * i + 1 = omega arith in
+        let here : ℕ = slice_index ends (2 * (i + 1)) in
+        let p = or_cases (i + 1 == 0) (ltb (slice_index ends (2 * (i + 1) - 1)) here) (range_tests (i + 1) h).2 in
+        let less : slice_index ends (2 * (i + 1) - 1) < here =
+        ⊎_elim
+        (λ (zero : (i + 1 == 0) ≡ true). absurd (omega (arith, eqb-true (i + 1) 0 zero)))
+        (λ (lt : ltb (slice_index ends (2 * (i + 1) - 1)) here ≡ true).
+        ltb-true (slice_index ends (2 * (i + 1) - 1)) here lt)
+        p in
+        grind (arith, common_steps, range_is);
     near = λ i h. omega (arith, id_is i h, is.ids.near i (id_low i h));
     next_ids = λ i h. omega (arith, id_is i h, is.ids.small i (id_low i h));
     matches = head_parts.2 ∙ sym is.patterns.some;
@@ -302,10 +287,9 @@ pub record IsPassedRow (b : Bounds) (at : ℕ) (bytes : List ℕ) (row : Row) (r
 pub passed_row : (b : Bounds) (at : ℕ) (bytes : List ℕ) (row : Row) (rest : List ℕ) → AreBytes bytes
     → row_at b at bytes ≡ Ok (row, rest) → IsPassedRow b at bytes row rest
 passed_row b at bytes row rest are e =
-    let first : row ≡ row_in b.order bytes = (row_ok b at bytes row rest e).is in
     let is : IsReadRow b at bytes (row_in b.order bytes) rest =
-    row_ok b at bytes (row_in b.order bytes) rest (e ∙ ap (λ r. Ok (r, rest)) first) in
-    subst (λ r. IsPassedRow b at bytes r rest) (sym first)
+    row_ok b at bytes (row_in b.order bytes) rest (e ∙ ap (λ r. Ok (r, rest)) (row_ok b at bytes row rest e).is) in
+    subst (λ r. IsPassedRow b at bytes r rest) (sym (row_ok b at bytes row rest e).is)
     (record {
       is = refl;
       stands = row_stands b at bytes rest are is;

@@ -9,7 +9,6 @@ use Rattle.rx_wire.specs.Fields.{bytes_at, field}
 use Rattle.rx_wire.specs.Heads.{IsLabel}
 use Rattle.rx_wire.proofs.Fields.{bytes_again, u32_again}
 use Rattle.rx_dense_image.specs.Heads.{head_at, head_text}
-use Rattle.rx_dense_image.specs.Rows.{AreWords}
 use Rattle.rx_dense_image.specs.StartTables.{start_table_at, start_table_text}
 use Rattle.rx_dense_image.specs.Marks.{quit_at, quit_text, special_at, special_text}
 use Rattle.rx_dense_image.proofs.MarksAgain.{AreSpecialIds, quit_again, special_again}
@@ -31,7 +30,8 @@ use Rattle.rx_sparse_image.specs.Tested.{AreTestedRows, IsRead, IsWhole, bounds_
 use Rattle.rx_sparse_image.proofs.ClosedRows.{AreClosed, closed, quit_is}
 use Rattle.rx_sparse_image.proofs.ShapedImages.{shaped}
 use Rattle.rx_sparse_image.proofs.ReadLayouts.{are_tested_in}
-use Rattle.rx_sparse_image.proofs.RowsAgain.{rows_again_read}
+use Rattle.rx_sparse_image.proofs.Sizes.{rows_few}
+use Rattle.rx_sparse_image.proofs.RowsAgain.{rows_read}
 
 is_label : IsLabel sparse_label
 is_label = record { short = omega arith; text = search rules }
@@ -51,12 +51,6 @@ special_ids l shape facts =
       min_start = id_small l shape l.special.min_start h.min_start;
       max_start = id_small l shape l.special.max_start h.max_start;
     }
-
--- ids of rows are words
-ids_words : (l : Layout) → IsShaped l → AreWords l.starts
-ids_words l shape =
-    words_below l.starts
-    (λ i lt. omega (arith, id_small l shape (slice_index l.starts i) (shape.starts.start_ids i lt)))
 
 -- ---- the bytes of the rows
 
@@ -79,12 +73,11 @@ unfolding row_bytes_at
 row_bytes_again order l read few rest =
     let rows : List ℕ = rows_text order l.rows in
     let settings : List ℕ = field order w32 l.pattern_len ++ l.classes in
-    let t3 : List ℕ = rows ++ rest in
-    let t2 : List ℕ = field order w32 (rows_len l.rows) ++ t3 in
+    let t2 : List ℕ = field order w32 (rows_len l.rows) ++ (rows ++ rest) in
     let regrouped : row_bytes_text order l ++ rest ≡ field order w32 (length l.rows) ++ (settings ++ t2) =
     simp append_assoc refl in
-    let front : bytes_at (rows_len l.rows) t3 ≡ Ok (rows, rest) =
-    subst (λ (n : ℕ). bytes_at n t3 ≡ Ok (rows, rest)) (length-rows order l.rows) (bytes_again rows rest) in
+    let front : bytes_at (rows_len l.rows) (rows ++ rest) ≡ Ok (rows, rest) =
+    subst (λ (n : ℕ). bytes_at n (rows ++ rest) ≡ Ok (rows, rest)) (length-rows order l.rows) (bytes_again rows rest) in
     grind (arith, common_steps, u32_again, settings_again)
 
 -- ---- the parts, one after another
@@ -130,7 +123,10 @@ parts_again order l whole rest =
       after_special = t4;
       head_read = ap (head_at sparse_label) all ∙ head_again sparse_label is_label order l.flags t1;
       rows_read = row_bytes_again order l read shape.rows.few t2;
-      table_read = start_table_again order (start_table_of l) read.table (ids_words l shape) t3;
+      table_read =
+          start_table_again order (start_table_of l) read.table
+          (words_below l.starts (λ i lt. omega
+          (arith, id_small l shape (slice_index l.starts i) (shape.starts.start_ids i lt)))) t3;
       special_read = special_again order (length (rows_text order l.rows)) l.special read.special within ids t4;
       quit_read = quit_again order l.quit read.quit rest;
     } in
@@ -155,5 +151,8 @@ whole_again order l whole rest =
     let size : length (text order l ++ rest) - length rest ≡ length (text order l) =
     omega (arith, length-append (text order l) rest) in
     read_by (text order l ++ rest) rest (parts order l) l.rows (parts_again order l whole rest)
-    (rows_again_read (bounds (length (rows_text order l.rows))) l.rows tested) whole.closed
+    (rows_read (bounds (length (rows_text order l.rows))) 0 l.rows
+    (length (rows_text (bounds (length (rows_text order l.rows))).order l.rows))
+    (omega (arith, length-rows (bounds (length (rows_text order l.rows))).order l.rows, rows_few l.rows))
+    (omega arith) tested.each) whole.closed
     ∙ ap (λ (n : ℕ). Ok (stored_of (parts order l) l.rows, n)) size

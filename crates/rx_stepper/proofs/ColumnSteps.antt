@@ -2,18 +2,9 @@
 use Rattle.rx_spec.proofs.Prelude.{◌≡◌, ℕ, ◌^◌, ◌<◌, ◌++◌, Bool, true, false, if◌then◌else◌, List, [], length, Option}
 use Rattle.rx_spec.proofs.Prelude.{None, Some, ap, ap₂, sym, ◌∙◌, subst, arith, Bor, IfSome, slice_index, option_copied}
 use Rattle.rx_spec.proofs.Prelude.{option_map_or, State, step}
-use Rattle.rx_base.specs.FactBits.{bits_of, facts_with}
-use Rattle.rx_stepper.specs.Columns.{AreGroups}
-use Rattle.rx_stepper.specs.Fits.{FitsCurrent, FitsLead, Table}
-use Rattle.rx_stepper.specs.Gathering.{IsLeadOf, matches_in, targets_in}
-use Rattle.rx_stepper.specs.Keys.{led_of, spelled}
-use Rattle.rx_stepper.specs.Leads.{lead_of, without}
-use Rattle.rx_stepper.specs.Steps.{Stand, made, patterns_of}
-use Rattle.rx_stepper.specs.Units.{units_of}
-use Rattle.rx_stepper.specs.declared.current.Current.{Current}
-use Rattle.rx_stepper.specs.declared.lead_in.LeadIn.{LeadIn}
-use Rattle.rx_stepper.specs.declared.lead_steps.LeadSteps.{LeadSteps}
-use Rattle.rx_stepper.specs.declared.steps.Steps.{Steps}
+use Rattle.rx_stepper.proofs.Prelude.{AreGroups, Current, FitsCurrent, FitsLead, IsLeadOf, LeadIn, LeadSteps, Stand}
+use Rattle.rx_stepper.proofs.Prelude.{Steps, Table, bits_of, facts_with, lead_of, led_of, made, matches_in, patterns_of}
+use Rattle.rx_stepper.proofs.Prelude.{spelled, targets_in, units_of, without}
 use Rattle.rx_stepper.proofs.KeyLaws.{bits_small}
 use Rattle.rx_stepper.proofs.StepLaws.{step_made}
 use Rattle.rx_stepper.proofs.StepperParts.{gathers}

@@ -1,21 +1,17 @@
 -- What decides the assertions of a state: the facts that are kept decide as much as all, states without assertions are
 -- decided already, and closures end at rows that stand.
-use Rattle.rx_spec.proofs.Prelude.{arith, ◌≡◌, ℕ, zero, suc, ◌+◌, ◌*◌, ◌||◌, Bool, true, false, if◌then◌else◌, List, []}
-use Rattle.rx_spec.proofs.Prelude.{◌∷◌, ◌++◌, length, refl, ap, ap₂, ◌∙◌, subst, common_steps, Contains, flat_map}
-use Rattle.rx_spec.proofs.Prelude.{list_any, Facts, both, unit_facts, facts_kept, facts_read, holds_read, Nfa, Row}
-use Rattle.rx_spec.proofs.Prelude.{IsShallow, State, Passing, Standing, Tested, row_at, reach_by, reach, closure}
-use Rattle.rx_spec.proofs.Prelude.{firsts, decided_rows, holds_before, is_look_row}
+use Rattle.std.proofs.lemmas.Bool.{cases_Bool}
+use Rattle.rx_spec.proofs.Prelude.{arith, ◌≡◌, ℕ, zero, suc, ◌+◌, ◌*◌, ◌||◌, Bool, true, false, List, [], ◌∷◌, ◌++◌}
+use Rattle.rx_spec.proofs.Prelude.{length, refl, ap, ap₂, ◌∙◌, subst, common_steps, Contains, flat_map, list_any, Facts}
+use Rattle.rx_spec.proofs.Prelude.{both, unit_facts, facts_kept, facts_read, holds_read, Nfa, Row, IsShallow, State}
+use Rattle.rx_spec.proofs.Prelude.{Passing, Standing, Tested, row_at, reach_by, reach, closure, firsts, decided_rows}
+use Rattle.rx_spec.proofs.Prelude.{holds_before, is_look_row}
+use Rattle.rx_stepper.proofs.Prelude.{Apart-fresh, Contains-here, Contains-nil, Contains-there, asked_of, closed_rows}
+use Rattle.rx_stepper.proofs.Prelude.{closure_unfolds, every-append, fresh_itself, fresh_within, stands}
 use Rattle.std.specs.List.{AllByRecursion as Every}
 use Rattle.rx_spec.specs.declared.Direction.{Direction}
 use Rattle.rx_spec.specs.declared.Look.{Look}
-use Rattle.lemmas_walks.proofs.Every.{every-append}
 use Rattle.lemmas_walks.proofs.Facts.{Cover, kept_cover, kept_after, kept_before}
-use Rattle.lemmas_walks.proofs.Firsts.{Contains-here, Contains-there, Contains-nil, fresh_within, fresh_itself}
-use Rattle.lemmas_walks.proofs.Firsts.{Apart-fresh}
-use Rattle.rx_powerset.specs.Closures.{closed_rows}
-use Rattle.rx_powerset.proofs.Closures.{closure_unfolds}
-use Rattle.rx_stepper.specs.Columns.{asked_of}
-use Rattle.rx_stepper.specs.Keys.{stands}
 
 -- ---- tests that agree on the assertions that rows have
 
@@ -25,9 +21,7 @@ Agree rows f g = (q : ℕ) (look : Look) (next : ℕ) → row_at rows q ≡ Row.
 module _ (rows : List Row) (f g : Look → Bool) (agree : Agree rows f g) where
   reach_one : (a b : ℕ → List ℕ) (q : ℕ) (row : Row) → row_at rows q ≡ row → ((p : ℕ) → a p ≡ b p)
       → reach_by (Tested f) a q row ≡ reach_by (Tested g) b q row
-  reach_one a b q (Row.Split first second) e h = ap₂ (λ x y. x ++ y) (h first) (h second)
-  reach_one a b q (Row.Look look next) e h = ap₂ (λ t l. if t then l else []) (agree q look next e) (h next)
-  reach_one a b q _ e h = refl
+  reach_one a b q row e h = grind (arith, common_steps)
 
   reach_same : (n q : ℕ) → reach rows (Tested f) n q ≡ reach rows (Tested g) n q
   unfolding reach
@@ -47,8 +41,7 @@ row_there (row ∷ rows) (suc q) e = Contains-there row rows _ (row_there rows q
 
 kept_next : (direction : Direction) (look : Look) (k x y : Facts) → Cover k (facts_read look)
     → holds_read direction look x (both k y) ≡ holds_read direction look x y
-kept_next Direction.Forward look k x y c = kept_after look k x y c
-kept_next Direction.Reverse look k x y c = kept_before look k y x c
+kept_next direction look k x y c = grind (arith, common_steps, kept_after, kept_before)
 
 -- the facts of a unit that are asked for decide what all its facts do
 pub decided_asked : (nfa : Nfa) (s : State) (unit : ℕ) {direction : Direction} {last next : Facts}
@@ -75,9 +68,7 @@ module _ (rows : List Row) where
 
   reach_stands : (behind : ℕ → List ℕ) (q : ℕ) (row : Row) → row_at rows q ≡ row
       → ((p : ℕ) → Every Stands (behind p)) → Every Stands (reach_by Standing behind q row)
-  reach_stands behind q (Row.Split first second) e h = grind (arith, common_steps, every-append)
-  reach_stands behind q Row.Fail e h = tt
-  reach_stands behind q _ e h = (ap stands e, tt)
+  reach_stands behind q row e h = grind (arith, common_steps, every-append)
 
   all_reached : (n q : ℕ) → Every Stands (reach rows Standing n q)
   unfolding reach
@@ -96,8 +87,7 @@ module _ (rows : List Row) where
       (closure rows Standing) from) x h))
     where
       every_at : (xs : List ℕ) → Every Stands xs → (x : ℕ) → Contains xs x → Stands x
-      every_at [] h x c = absurd (Contains-nil x c)
-      every_at (y ∷ ys) h x c = grind (arith, common_steps)
+      every_at xs h x c = grind (arith, common_steps, Contains-nil)
 
       every_from : (xs : List ℕ) → ((x : ℕ) → Contains xs x → Stands x) → Every Stands xs
       every_from [] h = tt
@@ -115,12 +105,10 @@ module _ (rows : List Row) (shallow : IsShallow rows) (pass : Passing) where
   closed_one q row e s no_look = grind (arith, common_steps, closure_unfolds)
 
   or_left_false : (a b : Bool) → (a || b) ≡ false → a ≡ false
-  or_left_false true b h = absurd (cc)
-  or_left_false false b h = refl
+  or_left_false a b h = grind (arith, common_steps, cases_Bool)
 
   or_right_false : (a b : Bool) → (a || b) ≡ false → b ≡ false
-  or_right_false true b h = absurd (cc)
-  or_right_false false b h = h
+  or_right_false a b h = grind (arith, common_steps, cases_Bool)
 
   closed_each : (qs : List ℕ) → Every (λ q. stands (row_at rows q) ≡ true) qs
       → list_any (λ q. is_look_row (row_at rows q)) qs ≡ false → flat_map (closure rows pass) qs ≡ qs

@@ -2,7 +2,7 @@
 use Rattle.rx_spec.proofs.Prelude.{common_steps, ◌≡◌, ◌≢◌, ℕ, zero, suc, ◌+◌, ◌<◌, List, [], ◌∷◌, ◌++◌, length, map}
 use Rattle.rx_spec.proofs.Prelude.{get_or, set, take, drop, refl, ap, sym, ◌∙◌, arith, ◌==◌, Bool, true, map-set}
 use Rattle.rx_spec.proofs.Prelude.{get_or-map, flat_map}
-use Rattle.rx_stepper.specs.Columns.{list_at}
+use Rattle.rx_stepper.proofs.Prelude.{list_at}
 
 -- one more that is empty
 pub empty_set : {X : Type 0} (f : X → List ℕ) (vs : List X) (i : ℕ) (y : X) → f y ≡ []

@@ -1,8 +1,7 @@
 -- Lists of groups that grow at the end, and marks on the groups.
 use Rattle.rx_spec.proofs.Prelude.{common_steps, ◌≡◌, ℕ, ◌+◌, ◌<◌, Bool, true, false, List, [], ◌∷◌, ◌++◌, length}
 use Rattle.rx_spec.proofs.Prelude.{get_or, set, arith, Facts, both, facts_kept, unit_facts, Nfa}
-use Rattle.rx_base.specs.FactBits.{bits_of, facts_with}
-use Rattle.rx_stepper.specs.Columns.{IsGroup}
+use Rattle.rx_stepper.proofs.Prelude.{IsGroup, bits_of, facts_with}
 
 -- what holds of each number of a list holds with one more
 pub each_push : (P : ℕ → ℕ → Type 0) (xs : List ℕ) (y i : ℕ) → length xs ≡ i → ((k : ℕ) → k < i → P k (get_or xs k 0))

@@ -2,14 +2,10 @@
 use Rattle.rx_spec.proofs.Prelude.{common_steps, ◌≡◌, ◌≢◌, ◌+◌, ◌<◌, ◌≤◌, ◌++◌, Bool, true, false, List, [], ℕ, length}
 use Rattle.rx_spec.proofs.Prelude.{map, arith, ◌∷◌, refl, or_parts, slice_index_or, list_any, Facts, Row, State}
 use Rattle.rx_spec.proofs.Prelude.{is_match_row, row_at}
-use Rattle.rx_expr.specs.Nfa.{meaning}
-use Rattle.rx_expr.specs.declared.thompson.nfa.NFA.{NFA}
-use Rattle.rx_stepper.specs.Columns.{AreGroups, Reads, list_at}
-use Rattle.rx_stepper.specs.Steps.{Stand, matches_of, rows_in}
+use Rattle.rx_stepper.proofs.Prelude.{AreGroups, MatchKind, NFA, Reads, Stand, Steps, list_at, matches_of, meaning}
+use Rattle.rx_stepper.proofs.Prelude.{rows_in}
 use Rattle.rx_stepper.specs.declared.closures.Closures.{Closures}
 use Rattle.rx_stepper.specs.declared.columns.Columns.{Columns}
-use Rattle.rx_stepper.specs.declared.steps.Steps.{Steps}
-use Rattle.rx_spec.specs.declared.MatchKind.{MatchKind}
 use Rattle.rx_stepper.proofs.StepLaws.{Done}
 
 -- what they are found of

@@ -1,16 +1,13 @@
 -- Keys: what is written spells its state, and a key tells what it spells.
-use Rattle.rx_spec.proofs.Prelude.{rules, ◌≡◌, ℕ, ◌+◌, ◌<◌, ◌≤◌, ◌&&◌, leb, Bool, true, false, if◌then◌else◌, List, []}
-use Rattle.rx_spec.proofs.Prelude.{◌∷◌, ◌++◌, ◌^◌, length, get_or, refl, ap, sym, ◌∙◌, subst, arith, length-append}
+use Rattle.rx_spec.proofs.Prelude.{rules, ◌≡◌, ℕ, ◌+◌, ◌<◌, ◌≤◌, ◌&&◌, leb, Bool, true, if◌then◌else◌, List, [], ◌∷◌}
+use Rattle.rx_spec.proofs.Prelude.{◌++◌, ◌^◌, length, get_or, refl, ap, sym, ◌∙◌, subst, arith, length-append}
 use Rattle.rx_spec.proofs.Prelude.{common_steps, All, and_parts, le-leb, lt-ltb, and_from, All-from_recursion}
 use Rattle.rx_spec.proofs.Prelude.{bytes_eq-Decides, list_all, bytes_eq, max_id, id_count, Facts, no_facts, Row, State}
 use Rattle.rx_spec.proofs.Prelude.{row_at, firsts}
+use Rattle.rx_stepper.proofs.Prelude.{Apart, Apart-fresh, Contains-nil, are_closed, bit, bits_of, every-weaker}
+use Rattle.rx_stepper.proofs.Prelude.{facts_with, few_firsts, fresh_itself, is_closed, is_key, key_of, label_of, own_of}
+use Rattle.rx_stepper.proofs.Prelude.{rows_by, spelled, stands, written, written_as}
 use Rattle.std.specs.List.{AllByRecursion as Every}
-use Rattle.lemmas_walks.proofs.Every.{every-weaker}
-use Rattle.rx_powerset.proofs.StateBounds.{few_firsts}
-use Rattle.rx_base.specs.FactBits.{bit, bits_of, facts_with}
-use Rattle.lemmas_walks.proofs.Firsts.{Apart, Apart-fresh, Contains-nil, fresh_itself}
-use Rattle.rx_stepper.specs.Keys.{key_of, label_of, own_of, spelled, stands, are_closed, is_closed, is_key}
-use Rattle.rx_stepper.specs.Leads.{rows_by, written, written_as}
 use Rattle.rx_stepper.proofs.Members.{apart_front}
 use Rattle.rx_stepper.proofs.WrittenRows.{written_spells}
 
@@ -158,5 +155,4 @@ module _ {rows : List Row} {lead : List ℕ} {s : State} {bits : ℕ} {is_led : 
 -- a context as it is kept beside rows
 pub kept_written : (asks : Bool) {bits group : ℕ} (asked : Facts) → bits ≡ (if asks then group else 0)
     → group ≡ bits_of asked → facts_with group ≡ asked → IsWritten bits (if asks then asked else no_facts)
-kept_written true asked e bits facts = record { bits_are = e ∙ bits; facts_are = ap facts_with e ∙ facts }
-kept_written false asked e bits facts = record { bits_are = e; facts_are = ap facts_with e }
+kept_written asks asked e bits facts = search rules

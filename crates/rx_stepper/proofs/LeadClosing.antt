@@ -2,16 +2,9 @@
 use Rattle.rx_spec.proofs.Prelude.{common_steps, ◌≡◌, ℕ, ◌<◌, Bool, true, false, if◌then◌else◌, List, [], ◌∷◌, ◌++◌}
 use Rattle.rx_spec.proofs.Prelude.{length, subst, arith, slice_get_past, recursion_from_All, All, id_count, Nfa}
 use Rattle.rx_spec.proofs.Prelude.{is_always_start_anchored, Row, IsShallow, Standing, row_at, closure, firsts}
+use Rattle.rx_stepper.proofs.Prelude.{Apart, AreMetTo, IsLeast, NFA, are_closed, closed_rows, closure_unfolds}
+use Rattle.rx_stepper.proofs.Prelude.{every-weaker, lead_of, led, meaning, stands, written, written_as}
 use Rattle.std.specs.List.{AllByRecursion as Every}
-use Rattle.lemmas_walks.proofs.Every.{every-weaker}
-use Rattle.lemmas_walks.proofs.Firsts.{Apart}
-use Rattle.rx_expr.specs.Nfa.{meaning}
-use Rattle.rx_expr.specs.declared.thompson.nfa.NFA.{NFA}
-use Rattle.rx_powerset.specs.Closures.{closed_rows}
-use Rattle.rx_powerset.proofs.Closures.{closure_unfolds}
-use Rattle.rx_stepper.specs.Keys.{are_closed, stands}
-use Rattle.rx_stepper.specs.Leads.{lead_of, led, written, written_as, IsLeast}
-use Rattle.rx_stepper.specs.Places.{AreMetTo}
 use Rattle.rx_stepper.proofs.Decisions.{closed_stands, firsts_twice}
 use Rattle.rx_stepper.proofs.KeyLaws.{apart_once, rows_closed}
 use Rattle.rx_stepper.proofs.LeadPlaces.{at_in}

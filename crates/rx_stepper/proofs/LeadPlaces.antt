@@ -4,10 +4,8 @@ use Rattle.rx_spec.proofs.Prelude.{◌∷◌, ◌++◌, length, take, drop, get_
 use Rattle.rx_spec.proofs.Prelude.{append_assoc, length-append, length-take, ⊎_elim, ltb, set, get_or-set_same}
 use Rattle.rx_spec.proofs.Prelude.{get_or-set_other, cases_lt, eqb-false, eqb-true, Some, slice_get, slice_index_or}
 use Rattle.rx_spec.proofs.Prelude.{same_Some}
-use Rattle.std.proofs.Common.{take-append-drop}
-use Rattle.lemmas_walks.proofs.Firsts.{Apart, by_test, seen_true}
-use Rattle.rx_stepper.specs.Leads.{without, led, IsLeast}
-use Rattle.rx_stepper.specs.Places.{no_place, ArePlaces, AreMetTo}
+use Rattle.rx_stepper.proofs.Prelude.{Apart, AreMetTo, ArePlaces, IsLeast, by_test, led, no_place, seen_true}
+use Rattle.rx_stepper.proofs.Prelude.{take-append-drop, without}
 use Rattle.rx_stepper.proofs.Members.{In, was, in_cases, in_nil, in_here, in_there, in_left, in_right, in_split, not_in}
 use Rattle.rx_stepper.proofs.Members.{apart_front, apart_last}
 use Rattle.rx_stepper.proofs.WrittenRows.{comes_again, comes_from, dropped}

@@ -3,10 +3,8 @@ use Rattle.rx_spec.proofs.Prelude.{common_steps, ◌≡◌, ℕ, not, ◌+◌, �
 use Rattle.rx_spec.proofs.Prelude.{◌∷◌, length, take, drop, get_or, sum_by, ap, ap₂, sym, ◌∙◌, arith, subst, ⊎_elim}
 use Rattle.rx_spec.proofs.Prelude.{drop_of_length-le, eqb-true, false_from_ne_true, drop_more, take_all, take_more}
 use Rattle.rx_spec.proofs.Prelude.{bytes_eq-Decides, both_ways, bytes_eq}
-use Rattle.lemmas_walks.proofs.Firsts.{Apart, by_test}
+use Rattle.rx_stepper.proofs.Prelude.{Apart, bit, by_test, led, split_by, without, written_as}
 use Rattle.std.specs.List.{AllByRecursion as Every}
-use Rattle.rx_base.specs.FactBits.{bit}
-use Rattle.rx_stepper.specs.Leads.{led, split_by, without, written_as}
 use Rattle.rx_stepper.proofs.Members.{In, in_cases, in_nil, was}
 use Rattle.rx_stepper.proofs.Without.{length_without, without_nil, without_old, without_new}
 use Rattle.rx_stepper.proofs.WrittenRows.{split_here, split_later, split_nowhere}

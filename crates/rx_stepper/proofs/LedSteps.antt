@@ -4,11 +4,7 @@ use Rattle.rx_spec.proofs.Prelude.{arith, ◌≡◌, ℕ, ◌==◌, ◌||◌, Bo
 use Rattle.rx_spec.proofs.Prelude.{refl, ap, ap₂, sym, ◌∙◌, subst, ⊎_elim, common_steps, false_from_ne_true, or_left}
 use Rattle.rx_spec.proofs.Prelude.{or_right, or_cases, flat_map, list_any, Row, Passing, row_at, is_match_row}
 use Rattle.rx_spec.proofs.Prelude.{to_first_match, cut, pattern_of}
-use Rattle.rx_spec.specs.declared.MatchKind.{MatchKind}
-use Rattle.lemmas_walks.proofs.Firsts.{by_test}
-use Rattle.rx_powerset.specs.Closures.{closed_rows}
-use Rattle.rx_stepper.specs.Leads.{without, led}
-use Rattle.rx_stepper.specs.Steps.{goes_on, matches_of}
+use Rattle.rx_stepper.proofs.Prelude.{MatchKind, by_test, closed_rows, goes_on, led, matches_of, without}
 use Rattle.rx_stepper.proofs.Members.{In, in_cases, in_nil, was}
 use Rattle.rx_stepper.proofs.Without.{without_nil, without_old, without_new, firsts_joined, led_gives}
 use Rattle.lemmas_walks.proofs.FirstMatch.{first_here, first_later, pattern_of-none}
@@ -136,14 +132,11 @@ module _ (rows : List Row) where
   -- The cut falls in the own rows, or in those of the lead-in.
   pub cut_led : (kind : MatchKind) (own lead : List ℕ) → goes_on kind (matches_of rows (cut kind rows own)) ≡ true
       → cut kind rows (led own lead) ≡ led (cut kind rows own) (cut kind rows lead)
-  cut_led MatchKind.All own lead h = refl
-  cut_led MatchKind.LeftmostFirst own lead h =
-      grind (arith, common_steps, cut_none, first_behind, cut_plain, first_without)
+  cut_led kind own lead h = grind (arith, common_steps, cut_none, first_behind, cut_plain, first_without)
 
   pub cut_led_off : (kind : MatchKind) (own lead : List ℕ) → goes_on kind (matches_of rows (cut kind rows own)) ≡ false
       → cut kind rows (led own lead) ≡ cut kind rows own
-  cut_led_off MatchKind.All own lead h = absurd (cc)
-  cut_led_off MatchKind.LeftmostFirst own lead h = grind (arith, common_steps, first_in_front, cut_some)
+  cut_led_off kind own lead h = grind (arith, common_steps, first_in_front, cut_some)
 
   -- ---- labels
 

@@ -1,3 +1,5 @@
+-- what proofs take from other modules
+pub mod Prelude
 -- closures: thin rows, the members of lists, and the searches of the rows with stamps
 pub mod ThinLists
 pub mod Members

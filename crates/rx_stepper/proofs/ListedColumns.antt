@@ -1,9 +1,7 @@
 -- Where the columns of sets stand: more columns behind change no span.
 use Rattle.rx_spec.proofs.Prelude.{common_steps, ◌≡◌, ℕ, ◌<◌, List, [], ◌∷◌, ◌++◌, length, refl, ap, sym, ◌∙◌, arith}
 use Rattle.rx_spec.proofs.Prelude.{slice_index, filter, All, range_with_len, contains, All-filter}
-use Rattle.rx_stepper.specs.Columns.{read_by}
-use Rattle.rx_stepper.specs.ListedSets.{IsListed, AreListed, Grown}
-use Rattle.rx_stepper.specs.declared.listed_sets.ListedSet.{ListedSet}
+use Rattle.rx_stepper.proofs.Prelude.{AreListed, Grown, IsListed, ListedSet, read_by}
 use Rattle.rx_stepper.proofs.ReadColumns.{range_few}
 use Rattle.lemmas_walks.proofs.QuitSets.{contains-empty}
 

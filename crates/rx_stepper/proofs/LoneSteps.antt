@@ -1,19 +1,10 @@
 -- A column by which the lead-in's rows alone go on leads where it leads these by themselves.
-use Rattle.rx_spec.proofs.Prelude.{◌≡◌, ℕ, zero, suc, ◌<◌, ◌++◌, true, List, [], ◌∷◌, length, None, Some, refl, ap, ap₂}
-use Rattle.rx_spec.proofs.Prelude.{sym, ◌∙◌, subst, arith, inl, IfSome, MatchOption, Option, slice_get, is_dead_state}
-use Rattle.rx_spec.proofs.Prelude.{Facts, Nfa, fresh, step}
-use Rattle.rx_spec.specs.declared.MatchKind.{MatchKind}
-use Rattle.rx_base.specs.FactBits.{facts_with}
-use Rattle.rx_stepper.specs.Columns.{AreGroups, asked_of}
-use Rattle.rx_stepper.specs.Fits.{FitsCurrent, FitsLead, Table}
-use Rattle.rx_stepper.specs.Gathering.{Follows, IsLone, matches_in, targets_in}
-use Rattle.rx_stepper.specs.Leads.{lead_of, without}
-use Rattle.rx_stepper.specs.Stepping.{lone_state}
-use Rattle.rx_stepper.specs.Steps.{IsStep, Stand, goes_on, made, patterns_of, rows_in}
-use Rattle.rx_stepper.specs.Units.{units_of}
-use Rattle.rx_stepper.specs.declared.current.Current.{Current}
-use Rattle.rx_stepper.specs.declared.lead_in.LeadIn.{LeadIn}
-use Rattle.rx_stepper.specs.declared.lead_steps.LeadSteps.{LeadSteps}
+use Rattle.rx_spec.proofs.Prelude.{common_steps, ◌≡◌, ℕ, zero, suc, ◌<◌, ◌++◌, true, List, [], ◌∷◌, length, None, Some}
+use Rattle.rx_spec.proofs.Prelude.{refl, ap, ap₂, sym, ◌∙◌, subst, arith, inl, IfSome, MatchOption, Option, slice_get}
+use Rattle.rx_spec.proofs.Prelude.{is_dead_state, Facts, Nfa, fresh, step}
+use Rattle.rx_stepper.proofs.Prelude.{AreGroups, Current, FitsCurrent, FitsLead, Follows, IsLone, IsStep, LeadIn}
+use Rattle.rx_stepper.proofs.Prelude.{LeadSteps, MatchKind, Stand, Table, asked_of, facts_with, goes_on, lead_of}
+use Rattle.rx_stepper.proofs.Prelude.{lone_state, made, matches_in, patterns_of, rows_in, targets_in, units_of, without}
 use Rattle.rx_stepper.proofs.ColumnSteps.{column_made, group_in, led_within, state_in, unit_in}
 use Rattle.rx_stepper.proofs.Members.{in_nil}
 use Rattle.rx_stepper.proofs.StepLaws.{leads_alone, step_made}
@@ -26,8 +17,7 @@ there_at (x ∷ xs) zero h = (x, refl)
 there_at (x ∷ xs) (suc i) h = there_at xs i (omega arith)
 
 goes_behind_none : (kind : MatchKind) → goes_on kind [] ≡ true
-goes_behind_none MatchKind.All = refl
-goes_behind_none MatchKind.LeftmostFirst = refl
+goes_behind_none kind = grind (arith, common_steps)
 
 module _ {t : Table} {lead_in : LeadIn} {leads : List LeadSteps} {current : Current}
     (fits_lead : FitsLead t lead_in leads) (fits : FitsCurrent t leads current) {column context : ℕ}

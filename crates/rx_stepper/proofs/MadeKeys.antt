@@ -1,15 +1,12 @@
 -- The key of a state that is made, as it is written.
+use Rattle.std.proofs.lemmas.Bool.{cases_Bool}
 use Rattle.rx_spec.proofs.Prelude.{common_steps, ◌≡◌, ℕ, ◌^◌, ◌<◌, ◌≤◌, ◌==◌, ◌&&◌, Bool, true, false, not}
 use Rattle.rx_spec.proofs.Prelude.{if◌then◌else◌, List, [], ◌∷◌, ◌++◌, length, refl, ap, sym, ◌∙◌, subst, arith}
 use Rattle.rx_spec.proofs.Prelude.{recursion_from_All, All, list_any, is_dead_state, id_count, max_id, Facts, Nfa}
 use Rattle.rx_spec.proofs.Prelude.{Standing, row_at, is_look_row}
+use Rattle.rx_stepper.proofs.Prelude.{IsMadeKey, bit, bits_of, by_test, closed_rows, every-append, every-weaker}
+use Rattle.rx_stepper.proofs.Prelude.{facts_with, lead_of, led, made, rows_by, without, written, written_as}
 use Rattle.std.specs.List.{AllByRecursion as Every}
-use Rattle.lemmas_walks.proofs.Every.{every-append, every-weaker}
-use Rattle.lemmas_walks.proofs.Firsts.{by_test}
-use Rattle.rx_base.specs.FactBits.{bit, bits_of, facts_with}
-use Rattle.rx_powerset.specs.Closures.{closed_rows}
-use Rattle.rx_stepper.specs.Leads.{lead_of, led, without, rows_by, written, written_as}
-use Rattle.rx_stepper.specs.Steps.{made, IsMadeKey}
 use Rattle.rx_stepper.proofs.Decisions.{closed_stands, firsts_twice}
 use Rattle.rx_stepper.proofs.KeyLaws.{AreClosed, IsWritten, WritesState, kept_written, key_written, spelled_is}
 use Rattle.rx_stepper.proofs.Members.{in_nil, was}
@@ -25,12 +22,10 @@ every_without P seen (x ∷ xs) h =
 
 every_by : (P : ℕ → Type 0) (lead own : List ℕ) (is_led : Bool) → Every P own → Every P lead
     → Every P (rows_by lead is_led own)
-every_by P lead own true h k = every-append P own (without own lead) h (every_without P own lead k)
-every_by P lead own false h k = h
+every_by P lead own is_led h k = grind (arith, common_steps, cases_Bool, every-append, every_without)
 
 led_some : (lead own : List ℕ) → 0 < length lead → 0 < length (led own lead)
-led_some lead [] h = omega (arith, ap length (without_none [] lead (λ x i j. in_nil x j)))
-led_some lead (x ∷ own) h = omega arith
+led_some lead own h = grind (arith, common_steps, without_none, in_nil)
 
 -- how the rows of a state that is made are written
 pub record WritesRows (nfa : Nfa) (from own : List ℕ) (is_led : Bool) : Type 0 where
@@ -65,8 +60,7 @@ module _ {nfa : Nfa} {from own : List ℕ} {is_led : Bool} (w : WritesRows nfa f
   dead_by : (b : Bool) (xs : List ℕ) (label : List ℕ) → rows_by (lead_of nfa) b xs ≡ closed
       → (b ≡ true → 0 < length (lead_of nfa))
       → ((length closed == 0) && (length label == 0)) ≡ (not b && (length xs == 0) && (length label == 0))
-  dead_by true xs label e some = grind (arith, common_steps, led_some)
-  dead_by false xs label e some = ap (λ l. (length l == 0) && (length label == 0)) (sym e)
+  dead_by b xs label e some = grind (arith, common_steps, cases_Bool, led_some)
 
   pub dead_made : (asked : Facts) (label : List ℕ) → is_dead_state (made nfa from asked label)
       ≡ (not is_led && (length own == 0) && (length label == 0))

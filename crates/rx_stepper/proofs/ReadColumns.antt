@@ -1,14 +1,12 @@
 -- The columns that rows read: each is named once, and more of them behind change no row's.
+use Rattle.std.proofs.lemmas.Bool.{cases_Bool}
 use Rattle.rx_spec.proofs.Prelude.{common_steps, ◌≡◌, ℕ, zero, suc, ◌+◌, ◌<◌, ◌≤◌, ◌==◌, ◌⊎◌, inl, inr, ⊎_elim, Bool}
 use Rattle.rx_spec.proofs.Prelude.{true, false, List, [], ◌∷◌, ◌++◌, Some, length, refl, ap, ap₂, sym, ◌∙◌, arith}
 use Rattle.rx_spec.proofs.Prelude.{append-nil, length-append, subst, map, get_or, filter, slice_get, slice_index, All}
 use Rattle.rx_spec.proofs.Prelude.{range_with_len, cases_lt, eq-eqb, ne_eqb, get_or-map, filter-append}
 use Rattle.rx_spec.proofs.Prelude.{length-range_with_len, get_or-range_with_len, Row, row_at, target}
-use Rattle.rx_spec.specs.declared.Unit.{Unit}
-use Rattle.rx_base.specs.Unit.{unit_number}
-use Rattle.lemmas_walks.proofs.Every.{flat_map-append_of}
-use Rattle.rx_stepper.specs.Columns.{only_if, led_by, columns_of, next_of, AreSpans, Reads}
-use Rattle.rx_stepper.specs.ListedSets.{Grown, IsRowSpan}
+use Rattle.rx_stepper.proofs.Prelude.{AreSpans, Grown, IsRowSpan, Reads, Unit, columns_of, flat_map-append_of, led_by}
+use Rattle.rx_stepper.proofs.Prelude.{next_of, only_if, unit_number}
 use Rattle.rx_stepper.specs.declared.column_span.ColumnSpan.{ColumnSpan}
 use Rattle.rx_stepper.proofs.TargetLists.{only_nothing}
 
@@ -43,8 +41,7 @@ module _ (next : ℕ) (test : ℕ → Bool) (column : ℕ) where
       (only_if (test n) (n ∷ []))
 
   led_last : (n : ℕ) (b : Bool) → led (only_if b (n ∷ [])) ≡ only_if b (only_if (column == n) (next ∷ []))
-  led_last n true = append-nil (only_if (column == n) (next ∷ []))
-  led_last n false = refl
+  led_last n b = grind (arith, common_steps, cases_Bool, append-nil)
 
   led_none : (n : ℕ) → n ≤ column → led (filter test (range_with_len 0 n)) ≡ []
   led_none zero h = refl
@@ -73,8 +70,7 @@ module _ (next : ℕ) (test : ℕ → Bool) (column : ℕ) where
 
 pub led_of : (row : Row) (units : List ℕ) (column : ℕ) → column < length units
     → led_by (next_of row) (columns_of row units) column ≡ target (slice_index units column) row
-led_of (Row.Bytes set next) units column h = grind (arith, common_steps, led_once)
-led_of _ units column h = refl
+led_of row units column h = grind (arith, common_steps, led_once)
 
 -- a turn of the loop over columns: the column is read, or it isn't
 pub column_pushed : (test : ℕ → Bool) (n : ℕ) (old : List ℕ) {before after : List ℕ}

@@ -1,35 +1,27 @@
 -- The searches that list a closure, with stamps for the rows that were met and a stack of those that wait.
+use Rattle.std.proofs.lemmas.Bool.{cases_Bool}
 use Rattle.rx_spec.proofs.Prelude.{common_steps, ◌≡◌, ℕ, ◌+◌, ◌<◌, ◌≤◌, ◌==◌, ◌||◌, ◌⊎◌, Bool, true, false, not}
 use Rattle.rx_spec.proofs.Prelude.{if◌then◌else◌, List, [], ◌∷◌, ◌++◌, get_or, drop, reverse, length, ap, sym, ◌∙◌}
 use Rattle.rx_spec.proofs.Prelude.{subst, arith, append-nil, length-append, ⊎_elim, not-false, not-true}
 use Rattle.rx_spec.proofs.Prelude.{nil_from_length, sum_by-cons, slice_get_past, both_ways, option_to_list, Option}
 use Rattle.rx_spec.proofs.Prelude.{Some, None, MatchOption, flat_map, list_any, id_count, Row, IsShallow, Passing}
 use Rattle.rx_spec.proofs.Prelude.{row_at, closure, fresh}
-use Rattle.std.specs.Prelude.{IfNone}
+use Rattle.rx_stepper.proofs.Prelude.{IfNone, IsSearched, IsThin, ReachesItself, ThinRow, by_test, closed_rows}
+use Rattle.rx_stepper.proofs.Prelude.{closure_unfolds, every-append, flat_map-append_of, fresh_alike, fresh_append}
+use Rattle.rx_stepper.proofs.Prelude.{fresh_keeps, fresh_new, fresh_nil, fresh_old, fresh_within, graph_of, in_turn}
+use Rattle.rx_stepper.proofs.Prelude.{is_end, is_met, popped, row_of_thin, seen_if, seen_true, unmet}
 use Rattle.std.specs.List.{AllByRecursion as Every}
-use Rattle.lemmas_walks.proofs.Every.{every-append, flat_map-append_of}
-use Rattle.lemmas_walks.proofs.Firsts.{by_test, fresh_alike, fresh_append, fresh_keeps, fresh_within, seen_if}
-use Rattle.lemmas_walks.proofs.Firsts.{seen_true, fresh_new, fresh_nil, fresh_old}
-use Rattle.rx_powerset.specs.Closures.{closed_rows}
-use Rattle.rx_powerset.proofs.Closures.{graph_of, closure_unfolds}
 use Rattle.rx_powerset.proofs.Search.{Graph, In, Listed, Notes, Searching, in_cases, in_nil, search_passes}
 use Rattle.rx_powerset.proofs.Search.{search_turns, search_ends}
-use Rattle.rx_powerset.proofs.StackSearch.{popped}
-use Rattle.rx_stepper.specs.Searches.{IsSearched, ReachesItself, in_turn}
-use Rattle.rx_stepper.specs.Stamps.{is_met, unmet}
-use Rattle.rx_stepper.specs.ThinRows.{IsThin, is_end, row_of_thin}
-use Rattle.rx_stepper.specs.declared.thin_row.ThinRow.{ThinRow}
 use Rattle.rx_stepper.proofs.Members.{in_here, in_left, in_right, in_split, not_in, was}
 
 -- ---- room: no more rows can be new than there are
 
 pub count_new : (n : ℕ) {m : ℕ} (first : Bool) → n + (if first then 1 else 0) ≡ m → first ≡ true → n + 1 ≡ m
-count_new n true h e = h
-count_new n false h e = cc
+count_new n first h e = grind (arith, common_steps, cases_Bool, n)
 
 pub count_old : (n : ℕ) {m : ℕ} (first : Bool) → n + (if first then 1 else 0) ≡ m → first ≡ false → n ≡ m
-count_old n true h e = cc
-count_old n false h e = omega arith
+count_old n first h e = grind (arith, common_steps, cases_Bool, n)
 
 pub unmet_within : (stamps : List ℕ) (now : ℕ) → unmet stamps now ≤ length stamps
 unmet_within [] now = omega arith
@@ -82,8 +74,7 @@ hand_first stack e = ap (λ h. in_turn h stack) e
 -- what is taken from the top of the stack is in hand
 pub top_in_hand : (hand : Option ℕ) {stack : List ℕ} (rest : List ℕ) → stack ≡ rest ++ option_to_list hand
     → in_turn hand rest ≡ reverse stack
-top_in_hand None rest e = sym (ap (λ l. reverse l) (e ∙ append-nil rest))
-top_in_hand (Some row) rest e = sym (popped rest e)
+top_in_hand hand rest e = grind (arith, common_steps, append-nil, popped)
 
 -- where none is taken none is left
 pub none_waits : (hand : Option ℕ) (rest : List ℕ) (old : ℕ) {len : ℕ} → len ≡ length rest
@@ -93,8 +84,7 @@ none_waits (Some row) rest old e h = tt
 
 -- with none in hand and an empty stack none is left
 none_in_turn : (hand : Option ℕ) (stack : List ℕ) → hand ≡ None → IfNone hand (stack ≡ []) → in_turn hand stack ≡ []
-none_in_turn None stack e h = ap (λ l. reverse l) h
-none_in_turn (Some row) stack e h = absurd (cc)
+none_in_turn hand stack e h = grind (arith, common_steps)
 
 -- ---- a search from one row: its beginning and its end
 

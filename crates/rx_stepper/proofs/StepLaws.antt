@@ -4,15 +4,9 @@ use Rattle.rx_spec.proofs.Prelude.{List, [], ◌∷◌, ◌++◌, length, refl, 
 use Rattle.rx_spec.proofs.Prelude.{slice_index_or, flat_map, ne_eqb, id_count, Facts, Nfa, Row, Passing, Standing}
 use Rattle.rx_spec.proofs.Prelude.{Tested, row_at, cut, to_first_match, fresh, decided_rows, holds_before, is_match_row}
 use Rattle.rx_spec.proofs.Prelude.{target, step}
-use Rattle.rx_spec.specs.declared.MatchKind.{MatchKind}
-use Rattle.rx_base.specs.FactBits.{facts_with}
-use Rattle.lemmas_walks.proofs.Every.{flat_map-flat_map}
-use Rattle.rx_powerset.specs.Closures.{closed_rows}
-use Rattle.rx_powerset.proofs.StateBounds.{first_few}
-use Rattle.rx_stepper.specs.Columns.{list_at, only_if, asked_of, AreGroups, AreUsed}
-use Rattle.rx_stepper.specs.Leads.{led, without}
-use Rattle.rx_stepper.specs.Steps.{Stand, going, going_by, goes_on, matches_of, patterns_of, rows_in, made, IsStep}
-use Rattle.rx_stepper.specs.Steps.{AreSteps, AreEmpty}
+use Rattle.rx_stepper.proofs.Prelude.{AreEmpty, AreGroups, AreSteps, AreUsed, IsStep, MatchKind, Stand, asked_of}
+use Rattle.rx_stepper.proofs.Prelude.{closed_rows, facts_with, first_few, flat_map-flat_map, goes_on, going, going_by}
+use Rattle.rx_stepper.proofs.Prelude.{led, list_at, made, matches_of, only_if, patterns_of, rows_in, without}
 use Rattle.rx_stepper.proofs.Decisions.{decided_asked}
 use Rattle.rx_stepper.proofs.LedSteps.{closed_led, cut_led, cut_led_off, patterns_matches, patterns_without}
 use Rattle.rx_stepper.proofs.Without.{led_gives}
@@ -113,14 +107,12 @@ plain_steps s units groups used targets matches {going'} e plain len are few ms 
 -- no more rows match than there are
 pub few_told : (kind : MatchKind) (rows : List Row) (qs : List ℕ)
     → length (matches_of rows (cut kind rows qs)) ≤ length qs
-few_told MatchKind.All rows qs = few_matches rows qs
-few_told MatchKind.LeftmostFirst rows qs = grind (arith, common_steps, few_matches, first_few)
+few_told kind rows qs = grind (arith, common_steps, few_matches, first_few)
 
 -- no rows need nothing
 cut_nil : (kind : MatchKind) (nfa : Nfa) → cut kind nfa.rows [] ≡ []
 unfolding to_first_match
-cut_nil MatchKind.All nfa = refl
-cut_nil MatchKind.LeftmostFirst nfa = refl
+cut_nil kind nfa = grind (arith, common_steps)
 
 fresh_nil : fresh [] [] ≡ []
 unfolding fresh

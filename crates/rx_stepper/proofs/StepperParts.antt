@@ -4,20 +4,10 @@ use Rattle.rx_spec.proofs.Prelude.{if◌then◌else◌, List, [], ◌∷◌, ◌
 use Rattle.rx_spec.proofs.Prelude.{sym, ◌∙◌, subst, arith, length-append, append-nil, length-set, ⊎_elim, Bor, All}
 use Rattle.rx_spec.proofs.Prelude.{slice_get, slice_index, unwrap_or, option_copied, option_map_or, id_count, Facts}
 use Rattle.rx_spec.proofs.Prelude.{Row, pattern_of, row_at}
-use Rattle.lemmas_walks.proofs.Firsts.{by_test}
-use Rattle.rx_base.specs.FactBits.{bits_of, facts_with}
-use Rattle.rx_powerset.proofs.StateBounds.{pattern_few}
-use Rattle.rx_stepper.specs.Fits.{AreStepsOf, FitsCurrent, FitsLead, Table}
-use Rattle.rx_stepper.specs.Gathering.{Follows, IsLeadOf, matches_in, targets_in}
-use Rattle.rx_stepper.specs.Keys.{led_of, own_of, spelled}
-use Rattle.rx_stepper.specs.LeadIns.{IsLeadIn}
-use Rattle.rx_stepper.specs.Leads.{lead_of, rows_by, without}
-use Rattle.rx_stepper.specs.Steps.{AreEmpty, IsStep, Stand, going, goes_on, patterns_of, rows_in}
-use Rattle.rx_stepper.specs.Units.{units_of}
-use Rattle.rx_stepper.specs.declared.current.Current.{Current}
-use Rattle.rx_stepper.specs.declared.lead_in.LeadIn.{LeadIn}
-use Rattle.rx_stepper.specs.declared.lead_steps.LeadSteps.{LeadSteps}
-use Rattle.rx_stepper.specs.declared.steps.Steps.{Steps}
+use Rattle.rx_stepper.proofs.Prelude.{AreEmpty, AreStepsOf, Current, FitsCurrent, FitsLead, Follows, IsLeadIn, IsLeadOf}
+use Rattle.rx_stepper.proofs.Prelude.{IsStep, LeadIn, LeadSteps, Stand, Steps, Table, bits_of, by_test, facts_with}
+use Rattle.rx_stepper.proofs.Prelude.{goes_on, going, lead_of, led_of, matches_in, own_of, pattern_few, patterns_of}
+use Rattle.rx_stepper.proofs.Prelude.{rows_by, rows_in, spelled, targets_in, units_of, without}
 use Rattle.rx_stepper.proofs.Members.{was}
 use Rattle.rx_stepper.proofs.StepLaws.{Leads, dead_steps, going_alone, leads_alone, leads_led}
 use Rattle.rx_stepper.proofs.Without.{without_nil, without_new, without_old}

@@ -1,9 +1,9 @@
 -- Lists of targets that are added to at the places of some columns.
+use Rattle.std.proofs.lemmas.Bool.{cases_Bool}
 use Rattle.rx_spec.proofs.Prelude.{common_steps, ◌≡◌, ℕ, ◌+◌, ◌<◌, ◌==◌, Bool, true, false, List, [], ◌∷◌, ◌++◌, length}
-use Rattle.rx_spec.proofs.Prelude.{map, get_or, set, take, refl, ap, ap₂, sym, ◌∙◌, arith, append_assoc, append-nil}
-use Rattle.rx_spec.proofs.Prelude.{filter, cond, eqb-true, map-set}
-use Rattle.lemmas_walks.proofs.Firsts.{by_test}
-use Rattle.rx_stepper.specs.Columns.{led_by, list_at, only_if}
+use Rattle.rx_spec.proofs.Prelude.{map, get_or, set, take, ap, ap₂, sym, ◌∙◌, arith, append_assoc, append-nil, filter}
+use Rattle.rx_spec.proofs.Prelude.{cond, eqb-true, map-set}
+use Rattle.rx_stepper.proofs.Prelude.{by_test, led_by, list_at, only_if}
 
 -- ---- one column
 
@@ -50,12 +50,10 @@ module _ (next : ℕ) (p : ℕ → Bool) (columns : List ℕ) (i d : ℕ) (lt : 
 -- ---- all columns of a row
 
 pub only_nothing : (b : Bool) → only_if b [] ≡ []
-only_nothing true = refl
-only_nothing false = refl
+only_nothing b = grind (arith, common_steps, cases_Bool)
 
 only_append : (b : Bool) (xs ys : List ℕ) → only_if b xs ++ only_if b ys ≡ only_if b (xs ++ ys)
-only_append true xs ys = refl
-only_append false xs ys = refl
+only_append b xs ys = grind (arith, common_steps, cases_Bool)
 
 pub led_filtered : (next : ℕ) (p : ℕ → Bool) (columns : List ℕ) (column : ℕ)
     → led_by next (filter p columns) column ≡ only_if (p column) (led_by next columns column)

@@ -2,10 +2,8 @@
 use Rattle.rx_spec.proofs.Prelude.{common_steps, ◌≡◌, ℕ, zero, suc, ◌+◌, ◌<◌, ◌≤◌, List, [], ◌∷◌, ◌++◌, length, get_or}
 use Rattle.rx_spec.proofs.Prelude.{refl, ap, sym, ◌∙◌, subst, arith, ⊎_elim, true, false, nat_lt, cases_lt}
 use Rattle.rx_spec.proofs.Prelude.{slice_get_past, map, list_any, Row, row_at, is_look_row}
-use Rattle.rx_expr.specs.Nfa.{row_of}
+use Rattle.rx_stepper.proofs.Prelude.{AreThin, IsThin, ThinRow, row_of, row_of_thin, thin_at}
 use Rattle.rx_expr.specs.declared.thompson.nfa.Row as code
-use Rattle.rx_stepper.specs.ThinRows.{row_of_thin, thin_at, IsThin, AreThin}
-use Rattle.rx_stepper.specs.declared.thin_row.ThinRow.{ThinRow}
 
 pub thin_there : (thin : List ThinRow) (q : ℕ) {row : ThinRow} → q < length thin → row ≡ get_or thin q row
     → row ≡ thin_at thin q

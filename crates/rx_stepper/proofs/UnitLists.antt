@@ -1,7 +1,6 @@
 -- The units of columns, as they are listed one after another.
 use Rattle.rx_spec.proofs.Prelude.{arith, ◌≡◌, ℕ, List, [], ◌∷◌, ◌++◌, map, common_steps}
-use Rattle.rx_base.specs.Unit.{unit_number}
-use Rattle.rx_spec.specs.declared.Unit.{Unit}
+use Rattle.rx_stepper.proofs.Prelude.{Unit, unit_number}
 
 -- one more unit
 pub units_more : (units more : List Unit) (unit : Unit) (left rest : List ℕ) {all : List ℕ}

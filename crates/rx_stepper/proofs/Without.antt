@@ -3,12 +3,9 @@ use Rattle.rx_spec.proofs.Prelude.{common_steps, ◌≡◌, ℕ, ◌+◌, ◌==�
 use Rattle.rx_spec.proofs.Prelude.{refl, ap, sym, ◌∙◌, subst, arith, append-nil, ⊎_elim, ◌||◌, sum_by, or_left}
 use Rattle.rx_spec.proofs.Prelude.{eqb-true, eqb-false, eq-eqb, sum_by-cons, both_ways, Contains, flat_map, fresh}
 use Rattle.rx_spec.proofs.Prelude.{firsts}
-use Rattle.lemmas_walks.proofs.Every.{flat_map-append_of}
-use Rattle.lemmas_walks.proofs.Firsts.{by_test, fresh_append, fresh_alike, fresh_within, fresh_keeps, Apart}
-use Rattle.lemmas_walks.proofs.Firsts.{Contains-here, Contains-nil, Contains-there, seen_true, seen_if, fresh_new}
-use Rattle.lemmas_walks.proofs.Firsts.{fresh_nil, fresh_old}
-use Rattle.rx_base.specs.FactBits.{bit}
-use Rattle.rx_stepper.specs.Leads.{without, led}
+use Rattle.rx_stepper.proofs.Prelude.{Apart, Contains-here, Contains-nil, Contains-there, bit, by_test}
+use Rattle.rx_stepper.proofs.Prelude.{flat_map-append_of, fresh_alike, fresh_append, fresh_keeps, fresh_new, fresh_nil}
+use Rattle.rx_stepper.proofs.Prelude.{fresh_old, fresh_within, led, seen_if, seen_true, without}
 use Rattle.rx_stepper.proofs.Members.{In, in_cases, in_nil, was, in_here, in_there, in_left, in_right, not_in}
 use Rattle.rx_powerset.proofs.Search.{fresh_skips}
 

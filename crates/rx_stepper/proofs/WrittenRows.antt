@@ -2,8 +2,8 @@
 use Rattle.rx_spec.proofs.Prelude.{common_steps, ◌≡◌, ℕ, ◌<◌, true, false, if◌then◌else◌, List, [], ◌∷◌, ◌++◌, length}
 use Rattle.rx_spec.proofs.Prelude.{refl, ap, ap₂, sym, ◌∙◌, subst, arith, append_assoc, ⊎_elim, false_from_ne_true}
 use Rattle.rx_spec.proofs.Prelude.{bytes_eq-Decides, bytes_eq}
-use Rattle.lemmas_walks.proofs.Firsts.{Apart, by_test, seen_true}
-use Rattle.rx_stepper.specs.Leads.{without, led, written_as, rows_by, split_by, written, IsLeast}
+use Rattle.rx_stepper.proofs.Prelude.{Apart, IsLeast, by_test, led, rows_by, seen_true, split_by, without, written}
+use Rattle.rx_stepper.proofs.Prelude.{written_as}
 use Rattle.rx_stepper.proofs.Members.{In, in_cases, in_nil, was, in_here, in_left, in_right, not_in, apart_last}
 use Rattle.rx_stepper.proofs.Without.{without_nil, without_old, without_new, without_append, without_join, without_all}
 use Rattle.rx_stepper.proofs.Without.{without_none, without_out, without_within, without_keeps}
@@ -48,8 +48,7 @@ split_spells lead front (x ∷ rest) =
 
 pub written_spells : (lead rows : List ℕ)
     → rows_by lead (written lead rows).is_led (written lead rows).own ≡ rows
-written_spells [] rows = refl
-written_spells (x ∷ lead) rows = split_spells (x ∷ lead) [] rows
+written_spells lead rows = grind (arith, common_steps, split_spells)
 
 -- ---- where a row of the lead-in is missing nothing follows
 
@@ -68,8 +67,7 @@ split_missing lead front (x ∷ rest) q i new =
 
 pub written_missing : (lead rows : List ℕ) (q : ℕ) → In lead q → was rows q ≡ false
     → written lead rows ≡ written_as false rows
-written_missing [] rows q i new = refl
-written_missing (x ∷ lead) rows q i new = split_missing (x ∷ lead) [] rows q i new
+written_missing lead rows q i new = grind (arith, common_steps, split_missing)
 
 -- ---- the least front
 
@@ -115,8 +113,7 @@ split_least lead front (x ∷ rest) own e a least =
 
 pub written_least : (lead own : List ℕ) → 0 < length lead → Apart own → IsLeast lead own
     → written lead (led own lead) ≡ written_as true own
-written_least [] own h a least = absurd (omega arith)
-written_least (x ∷ lead) own h a least = split_least (x ∷ lead) [] own own refl a least
+written_least lead own h a least = grind (arith, common_steps, split_least)
 
 -- ---- the last row may go where it would come again at once
 

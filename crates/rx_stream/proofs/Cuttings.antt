@@ -1,7 +1,7 @@
 -- A text cut into pieces.
 use Rattle.rx_spec.proofs.Prelude.{arith, ◌≡◌, ℕ, ◌<◌, Some, None, List, [], ◌∷◌, ◌++◌, drop, refl, ap, sym, ◌∙◌}
-use Rattle.rx_spec.proofs.Prelude.{common_steps, drop-length, append-nil, All-append, All-head, All-tail, All-nil, All}
-use Rattle.rx_spec.proofs.Prelude.{concat, AreBytes, Item, Ending, Table}
+use Rattle.rx_spec.proofs.Prelude.{common_steps, All-append, All-head, All-tail, All-nil, All, concat, AreBytes, Item}
+use Rattle.rx_spec.proofs.Prelude.{Ending, Table}
 use Rattle.rx_stream.specs.Remaining.{events, ending_events, told_over, units_to, remaining, now}
 use Rattle.rx_stream.specs.Calls.{IsFed}
 use Rattle.rx_stream.specs.Cuttings.{Feeds, Finishes, CutTellsWhole, CutTellsNow, QuitIsLast, QuitTellsNoMore}
@@ -20,11 +20,11 @@ module _ {t : Table} {ids : List ℕ} {old new : Place} {piece : List ℕ} {from
     (is : IsFed t ids old new piece from fed) where
   pub silent_call : fed.event ≡ None → (more : List ℕ) → AreBytes more
       → remaining t ids old (drop from piece ++ more) ≡ remaining t ids new more
-  silent_call none more are = grind (arith, common_steps, drop-length)
+  silent_call none more are = grind (arith, common_steps)
 
   pub silent_now : fed.event ≡ None → (more : List ℕ) → AreBytes more
       → now t ids old (drop from piece ++ more) ≡ now t ids new more
-  silent_now none more are = grind (arith, common_steps, drop-length)
+  silent_now none more are = grind (arith, common_steps)
 
   pub told_call : {event : StreamEvent} → fed.event ≡ Some event → (more : List ℕ) → AreBytes more
       → remaining t ids old (drop from piece ++ more)
@@ -50,7 +50,7 @@ fed_tells {t} {ids} (Feeds.Told old here new piece from fed pieces event events 
 pub fed_now : {t : Table} {ids : List ℕ} {old new : Place} {piece : List ℕ} {from : ℕ} {pieces : List (List ℕ)}
     {fed : List StreamEvent} → Feeds t ids old piece from pieces fed new → All AreBytes pieces
     → now t ids old (drop from piece ++ concat pieces) ≡ fed
-fed_now {t} {ids} (Feeds.Last old new piece from fed is none) all = grind (arith, common_steps, append-nil)
+fed_now {t} {ids} (Feeds.Last old new piece from fed is none) all = grind (arith, common_steps)
 fed_now (Feeds.Next old here new piece next from fed pieces events is none later) all =
     silent_now is none (concat (next ∷ pieces)) (joined_bytes (next ∷ pieces) all)
     ∙ fed_now later (All-tail AreBytes next pieces all)

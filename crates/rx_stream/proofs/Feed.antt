@@ -12,11 +12,11 @@ use Rattle.rx_stream.specs.declared.event.Fed.{Fed}
 use Rattle.rx_stream.specs.declared.event.StreamEvent.{StreamEvent}
 use Rattle.rx_stream.specs.declared.place.Place.{Place}
 use Rattle.rx_stream.specs.declared.place.Stage.{Stage}
-use Rattle.rx_stream.proofs.Remaining.{IsRead, reads_pattern, reads_match, reads_quit, reads_all}
+use Rattle.rx_stream.proofs.Remaining.{IsRead, reads_match, reads_quit, reads_all}
 use Rattle.lemmas_walks.proofs.ReadUnits.{bytes_word}
 
 pub ended_word : (bytes : List ℕ) → AreBytes bytes → IsWord (bytes ++ (eoi ∷ []))
-ended_word bytes are = grind (arith, common_steps, bytes_word)
+ended_word bytes are = grind (arith, common_steps)
 
 pub open_stage : (s : Stage) → is_open s ≡ true → s ≡ Stage.Open
 open_stage Stage.Open e = refl
@@ -47,11 +47,7 @@ fed_by {t} {ids} {old} {new} {piece} {from} {fed} on read = record {
       (sym (append_assoc (drop fed.used piece) more (eoi ∷ [])))
       ∙ ap (λ (s : Stage). with_event fed.event
       (events (told_over t ids new (units_to s (drop fed.used piece ++ more))))) (sym on.still_open);
-  tells_now = λ more are.
-      ap (λ (s : Stage). now_at s t ids old (drop from piece ++ more)) on.was_open
-      ∙ read.tells more (bytes_word more are)
-      ∙ ap (λ (s : Stage). with_event fed.event (now_at s t ids new (drop fed.used piece ++ more)))
-      (sym on.still_open);
+  tells_now = λ more are. grind (arith, common_steps, bytes_word);
   over = on.over;
   on_time = λ none.
       ap (λ (s : Stage). now_at s t ids old (drop from piece)) on.was_open
@@ -64,13 +60,6 @@ fed_by {t} {ids} {old} {new} {piece} {from} {fed} on read = record {
       ∙ ap (λ (units : List ℕ). events (told_over t ids new units)) (drop-length piece)
       ∙ read.on_time none;
 }
-
--- a pattern of the row that is left
-pub fed_pattern : {t : Table} {ids : List ℕ} {old new : Place} {found : HalfMatch} {piece : List ℕ} {from : ℕ}
-    → old.stage ≡ Stage.Open → from ≤ length piece → IsNextPattern t ids old new (Some found)
-    → IsFed t ids old new piece from (record { used = from; event = Some (StreamEvent.Match found) })
-fed_pattern {t} {ids} {old} {new} {found} {piece} {from} was_open h is =
-    grind (arith, common_steps, fed_by, reads_pattern)
 
 open_here : {old here : Place} → old.stage ≡ Stage.Open → here ≡ old → here.stage ≡ Stage.Open
 open_here was_open same = ap (λ (place : Place). place.stage) same ∙ was_open

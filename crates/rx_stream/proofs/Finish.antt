@@ -51,8 +51,7 @@ module _ (t : Table) (ids : List ℕ) (old : Place) where
   -- none is left, and the end mark is read
   pub finish_over : {new : Place} → IsNextPattern t ids (closed_place old) new None → is_ended new.stage ≡ true
       → IsFinished t ids old new None
-  finish_over {new} is ended =
-      grind (arith, common_steps, ended_not_open, remains, no_unit, none_pending, overlapping-nil)
+  finish_over {new} is ended = grind (arith, common_steps, ended_not_open, remains, no_unit, overlapping-nil)
 
 -- ---- the end mark
 
@@ -91,10 +90,7 @@ module _ {t : Table} {ids : List ℕ} {old : Place} {next : ℕ} (r : ReadsEnd t
   end_found {new} {found} is = record {
     is_closed = ap (λ (place : Place). is_open place.stage) is.0;
     taken = ap (λ (place : Place). place.taken) is.0;
-    tells =
-        end_remains ∙ pattern_told t ids (end_place next old.taken) new is []
-        ∙ ap (λ (place : Place). StreamEvent.Match found
-        ∷ events (told_over t ids new (units_to place.stage []))) (sym is.0);
+    tells = grind (arith, common_steps, end_remains, pattern_told);
     none = λ e. absurd (cc);
   }
 
@@ -104,10 +100,7 @@ module _ {t : Table} {ids : List ℕ} {old : Place} {next : ℕ} (r : ReadsEnd t
     is_closed = ap (λ (place : Place). is_open place.stage) is.0;
     taken = ap (λ (place : Place). place.taken) is.0;
     tells = end_remains ∙ ap (λ (place : Place). remaining t ids place []) (sym is.0);
-    none = λ e.
-        end_remains
-        ∙ ap events (none_pending t ids (end_place next old.taken) is.1 []
-        ∙ overlapping-nil t.machine Direction.Forward (row_of ids next) old.taken);
+    none = λ e. grind (arith, common_steps, end_remains, none_pending, overlapping-nil, row_of);
   }
 
 -- The same from the place that is left once the text is closed and no pattern was found.

@@ -1,25 +1,19 @@
 -- What is told before the end is a front of what is told, and from dead nothing is told.
 use Rattle.rx_spec.proofs.Prelude.{arith, ◌≡◌, ℕ, ◌+◌, Bool, true, false, if◌then◌else◌, List, [], ◌∷◌, ◌++◌, refl, ap}
-use Rattle.rx_spec.proofs.Prelude.{sym, ◌∙◌, subst, common_steps, flat_map-append, append-nil, append_assoc, flat_map}
-use Rattle.rx_spec.proofs.Prelude.{eoi, row_of, Label, IsWord, Item, Ending, OverlappingMatches, none_left}
-use Rattle.rx_spec.proofs.Prelude.{at_item_label, pattern_items, with_items, Table}
+use Rattle.rx_spec.proofs.Prelude.{sym, ◌∙◌, subst, common_steps, append-nil, eoi, Label, IsWord, Item, Ending}
+use Rattle.rx_spec.proofs.Prelude.{OverlappingMatches, none_left, at_item_label, pattern_items, with_items, Table}
 use Rattle.rx_spec.specs.Overlapping.{label_items}
 use Rattle.rx_spec.specs.declared.Direction.{Direction}
 use Rattle.lemmas_walks.proofs.Overlapping.{overlapping-nil, overlapping-cons, overlapping_silent}
 use Rattle.lemmas_walks.proofs.SilentRows.{zero_is_silent}
 use Rattle.lemmas_walks.proofs.Words.{IsWord-nil}
-use Rattle.rx_search.specs.Labels.{patterns_of, label_patterns}
-use Rattle.rx_stream.specs.Remaining.{events, item_events, told_over, pending, units_to, now_at}
+use Rattle.rx_stream.specs.Remaining.{events, told_over, pending, units_to, now_at}
 use Rattle.rx_stream.specs.Cuttings.{NowIsFront, DeadTellsNothing}
 use Rattle.rx_stream.specs.Pieces.{walked}
 use Rattle.rx_stream.specs.declared.place.Stage.{Stage}
 use Rattle.rx_stream.specs.declared.event.StreamEvent.{StreamEvent}
-use Rattle.rx_stream.proofs.Remaining.{none_pending, no_pending}
+use Rattle.rx_stream.proofs.Remaining.{none_pending}
 use Rattle.rx_stream.proofs.Feed.{ended_word}
-
-events_items : (items : List Item) (m : OverlappingMatches)
-    → events (with_items items m) ≡ flat_map item_events items ++ events m
-events_items items m = grind (arith, common_steps, flat_map-append, append_assoc)
 
 abbrev IsFront : List StreamEvent → List StreamEvent → Type 0
 IsFront front all = (later : List StreamEvent) × (all ≡ front ++ later)
@@ -29,7 +23,7 @@ whole_front es = ([], sym (append-nil es))
 
 items_front : (items : List Item) (a b : OverlappingMatches) → IsFront (events a) (events b)
     → IsFront (events (with_items items a)) (events (with_items items b))
-items_front items a b front = grind (arith, common_steps, events_items, append_assoc)
+items_front items a b front = grind (arith, common_steps)
 
 walk_front : (t : Table) (row offset : ℕ) (units more : List ℕ)
     → IsFront (events (walked t row offset units)) (events (walked t row offset (units ++ more)))
@@ -70,11 +64,7 @@ now_is_front t ids place bytes = by_stage place.stage
   where
     front : (more : List ℕ)
         → IsFront (events (told_over t ids place bytes)) (events (told_over t ids place (bytes ++ more)))
-    front more =
-        items_front (pattern_items (pending t ids place) place.offset)
-        (walked t (row_of ids place.row) place.taken bytes)
-        (walked t (row_of ids place.row) place.taken (bytes ++ more))
-        (walk_front t (row_of ids place.row) place.taken bytes more)
+    front more = grind (arith, common_steps, items_front, pattern_items, walk_front)
 
     by_stage : (stage : Stage)
         → IsFront (now_at stage t ids place bytes) (events (told_over t ids place (units_to stage bytes)))
@@ -85,9 +75,7 @@ pub dead_tells_nothing : DeadTellsNothing
 dead_tells_nothing t ids place bytes is dead are = ap events (all (units_to place.stage bytes) (word place.stage))
   where
     none : pending t ids place ≡ []
-    none =
-        no_pending t ids place
-        (ap (patterns_of t) dead ∙ ap (λ (l : Label). label_patterns l) is.dead_label)
+    none = grind (arith, common_steps)
 
     word : (stage : Stage) → IsWord (units_to stage bytes)
     word Stage.Ended = IsWord-nil

@@ -1,7 +1,6 @@
 -- What a new searcher tells of a whole text.
 use Rattle.rx_spec.proofs.Prelude.{common_steps, ◌≡◌, ℕ, ◌-◌, false, List, [], ◌∷◌, ◌++◌, refl, ap, sym, ◌∙◌, arith}
-use Rattle.rx_spec.proofs.Prelude.{take-length, false_from_ne_true, ltb-true, slice_get_past, eoi, row_of, Anchored}
-use Rattle.rx_spec.proofs.Prelude.{is_done, units_of, Table}
+use Rattle.rx_spec.proofs.Prelude.{slice_get_past, eoi, row_of, Anchored, is_done, units_of, Table}
 use Rattle.rx_spec.specs.declared.Direction.{Direction}
 use Rattle.lemmas_walks.proofs.Overlapping.{overlapping_walks}
 use Rattle.rx_search.specs.Labels.{label_patterns}
@@ -16,11 +15,11 @@ use Rattle.rx_stream.specs.declared.place.Stage.{Stage}
 use Rattle.rx_stream.proofs.Remaining.{none_pending}
 
 pub not_done : (bytes : List ℕ) (mode : Anchored) → is_done (whole bytes mode) ≡ false
-not_done bytes mode = grind (arith, common_steps, false_from_ne_true, ltb-true)
+not_done bytes mode = grind (arith, common_steps)
 
 -- all units of a whole text
 whole_units : (bytes : List ℕ) (mode : Anchored) → units_of Direction.Forward (whole bytes mode) ≡ bytes ++ (eoi ∷ [])
-whole_units bytes mode = grind (arith, common_steps, take-length, slice_get_past)
+whole_units bytes mode = grind (arith, common_steps, slice_get_past)
 
 pub is_new : {t : Table} {ids : List ℕ} {mode : Anchored} (row : ℕ) → Standing t (row_of ids row)
     → IsStart t Direction.Forward (whole [] mode) (row_of ids row)
@@ -38,6 +37,5 @@ is_new {t} {ids} {mode} row s start =
           ∙ ap (λ (r : ℕ). walked t r 0 (units_of Direction.Forward (whole bytes mode))) start.row_is
           ∙ sym (overlapping_walks t.machine t.settings Direction.Forward (whole bytes mode) (not_done bytes mode)
           start.allowed));
-      tells_now = λ bytes.
-          ap events (none_pending t ids place none bytes ∙ ap (λ (r : ℕ). walked t r 0 bytes) start.row_is);
+      tells_now = λ bytes. grind (arith, common_steps, none_pending);
     }

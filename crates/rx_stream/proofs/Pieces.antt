@@ -1,11 +1,11 @@
 -- Walks over a piece of a text, whatever follows it.
 use Rattle.rx_spec.proofs.Prelude.{common_steps, ◌≡◌, ℕ, suc, zero, ◌+◌, ◌-◌, ◌<◌, ◌≤◌, ◌==◌, Bool, true, false}
 use Rattle.rx_spec.proofs.Prelude.{if◌then◌else◌, Some, None, List, ◌∷◌, ◌++◌, length, drop, refl, ap, sym, ◌∙◌, subst}
-use Rattle.rx_spec.proofs.Prelude.{arith, length-drop, drop-length, false_from_ne_true, eqb-true, get_or-drop}
-use Rattle.rx_spec.proofs.Prelude.{slice_index, AreBytes, row_of, Label, IsWord, OverlappingMatches, Ending, none_left}
-use Rattle.rx_spec.proofs.Prelude.{at_item_label, Table, is_match}
+use Rattle.rx_spec.proofs.Prelude.{arith, length-drop, drop-length, false_from_ne_true, eqb-true, slice_index, AreBytes}
+use Rattle.rx_spec.proofs.Prelude.{row_of, Label, IsWord, OverlappingMatches, Ending, none_left, at_item_label, Table}
+use Rattle.rx_spec.proofs.Prelude.{is_match}
 use Rattle.rx_spec.specs.declared.Direction.{Direction}
-use Rattle.lemmas_walks.proofs.Overlapping.{overlapping-cons, overlapping_on, overlapping_silent}
+use Rattle.lemmas_walks.proofs.Overlapping.{overlapping-cons, overlapping_silent}
 use Rattle.lemmas_walks.proofs.SilentRows.{zero_is_silent}
 use Rattle.lemmas_tables.proofs.Tables.{match_alive}
 use Rattle.rx_search.specs.Labels.{is_quit}
@@ -33,14 +33,13 @@ on_label t next unit offset units label dead =
 pub walk_turns : {t : Table} {row unit next : ℕ} → Turn t row unit next → (offset : ℕ) (units : List ℕ)
     {label : Label} {dead : Bool} → t.machine.label next ≡ label → t.machine.is_dead next ≡ dead
     → walked t row offset (unit ∷ units) ≡ on_label t next unit offset units label dead
-walk_turns {t} {row} {unit} {next} turn offset units {label} {dead} e f =
-    grind (arith, common_steps, overlapping-cons, overlapping_on)
+walk_turns {t} {row} {unit} {next} turn offset units {label} {dead} e f = grind (arith, common_steps, overlapping-cons)
 
 -- ---- walks that tell nothing
 
 pub walk_begins : (t : Table) (row : ℕ) (piece : List ℕ) (from : ℕ) → from ≤ length piece
     → IsQuietWalk t row piece from row from
-walk_begins t row piece from h = grind (arith, common_steps, quiet)
+walk_begins t row piece from h = grind (arith, common_steps)
 
 -- what the next byte of the piece makes of one
 module _ {t : Table} {row : ℕ} {piece : List ℕ} {from here at next : ℕ} (walk : IsQuietWalk t row piece from here at)
@@ -60,7 +59,6 @@ module _ {t : Table} {row : ℕ} {piece : List ℕ} {from here at next : ℕ} (w
     high = omega arith;
     quiet = λ m. let no = sym (match_label (t.machine.label next) m) ∙ is.plain in absurd (cc);
     goes_on = λ offset more w.
-        let l = walk.low in
         let there : offset + (at - from) + 1 ≡ offset + (at + 1 - from) = omega arith in
         tells_by is.plain is.alive offset more w
         ∙ ap (λ (o : ℕ). walked t next o (drop (at + 1) piece ++ more)) there;
@@ -112,22 +110,20 @@ module _ {t : Table} {row : ℕ} {piece : List ℕ} {from here : ℕ} (bytes : A
       let same : at ≡ at + 0 = omega arith in subst (IsQuietWalk t row piece from here) same walk
   skips_bytes (suc n) at walk h unread =
       let byte = slice_index piece at in
-      let below : byte < 256 = bytes at 0 (omega (arith, h)) in
+      let below : byte < 256 = bytes at 0 (omega arith) in
       let first = unread at (omega arith) (omega arith) in
       let turn : Turn t here byte here = record { leads = sym (loops s byte below first); standing = s } in
       let there : at + 1 + n ≡ at + suc n = omega arith in
       subst (IsQuietWalk t row piece from here) there
-      (skips_bytes n (at + 1) (walk_goes_on walk (omega (arith, h)) turn (unread_quiet s byte below no_match first))
-      (omega (arith, h)) (λ k low high. unread k (omega (arith, low)) (omega (arith, high))))
+      (skips_bytes n (at + 1) (walk_goes_on walk (omega arith) turn (unread_quiet s byte below no_match first))
+      (omega arith) (λ k low high. unread k (omega arith) (omega arith)))
 
   pub walk_skips : {at to : ℕ} → IsQuietWalk t row piece from here at → IsSkip t here piece at to
       → IsQuietWalk t row piece from here to
   walk_skips {at} {to} walk skip =
-      let low = skip.low in
-      let high = skip.high in
       let there : at + (to - at) ≡ to = omega arith in
       subst (IsQuietWalk t row piece from here) there
-      (skips_bytes (to - at) at walk (omega arith) (λ k l h. skip.skipped k l (omega (arith, h, there))))
+      (skips_bytes (to - at) at walk (omega arith) (λ k l h. skip.skipped k l (omega arith)))
 
 -- ---- stretches of bytes that lead to ordinary rows
 
@@ -143,18 +139,18 @@ module _ {t : Table} {row : ℕ} {piece : List ℕ} {from here at : ℕ} (bytes 
   ordinary_bytes zero h plain =
       let same : at ≡ at + 0 = omega arith in (subst (IsQuietWalk t row piece from here) same walk, s)
   ordinary_bytes (suc n) h plain =
-      let before = ordinary_bytes n (omega (arith, h)) (λ k low. plain k (omega (arith, low))) in
+      let before = ordinary_bytes n (omega arith) (λ k low. plain k (omega arith)) in
       let byte = slice_index piece (at + n) in
-      let below : byte < 256 = bytes (at + n) 0 (omega (arith, h)) in
+      let below : byte < 256 = bytes (at + n) 0 (omega arith) in
       let next = t.machine.next (row_after n) byte in
-      let size = s.sound.is_table.nexts (row_after n) byte before.1.below (omega (arith, below)) in
+      let size = s.sound.is_table.nexts (row_after n) byte before.1.below (omega arith) in
       let stands : Standing t next = record { sound = s.sound; below = size } in
       let turn : Turn t (row_after n) byte next = record { leads = refl; standing = stands } in
       let one : n + 1 ≡ suc n = omega arith in
       let plain_next = ap (λ (i : ℕ). t.is_special (row_after i)) (sym one) ∙ plain n (omega arith) in
       let there : at + n + 1 ≡ at + suc n = omega arith in (
         subst (IsQuietWalk t row piece from next) there
-            (walk_goes_on before.0 (omega (arith, h)) turn (ordinary stands plain_next)),
+            (walk_goes_on before.0 (omega arith) turn (ordinary stands plain_next)),
         stands,
       )
 
@@ -187,7 +183,7 @@ unread : (t : Table) (row : ℕ) (piece : List ℕ) {needles : List ℕ} {from :
     → is_nil (t.needles row) ≡ false → (k : ℕ) → from ≤ k
     → is_needle needles (slice_index (drop from piece) (k - from)) ≡ false
     → is_read t row (slice_index piece k) ≡ false
-unread t row piece {needles} {from} same some k low e = grind (arith, common_steps, get_or-drop)
+unread t row piece {needles} {from} same some k low e = grind (arith, common_steps)
 
 -- a skip, as the next needle is found in the rest of a piece
 module _ {t : Table} {row : ℕ} {needles piece : List ℕ} {from : ℕ} (same : needles ≡ t.needles row)
@@ -196,10 +192,10 @@ module _ {t : Table} {row : ℕ} {needles piece : List ℕ} {from : ℕ} (same :
       → IsSkip t row piece from (from + at)
   skip_found at first = record {
     low = omega arith;
-    high = omega (arith, length-drop from piece, first.0.high);
+    high = omega (arith, length-drop from piece);
     skipped = λ k low high.
         unread t row piece same some k low
-        (false_from_ne_true _ (first.0.before (k - from) (omega arith) (omega (arith, low, high))));
+        (false_from_ne_true _ (first.0.before (k - from) (omega arith) (omega arith)));
   }
 
   pub skip_none : IsFirstNeedle needles (drop from piece) None → IsSkip t row piece from (length piece)
@@ -209,5 +205,5 @@ module _ {t : Table} {row : ℕ} {needles piece : List ℕ} {from : ℕ} (same :
     skipped = λ k low high.
         unread t row piece same some k low
         (false_from_ne_true _
-        (none (k - from) (omega arith) (omega (arith, low, high, length-drop from piece))));
+        (none (k - from) (omega arith) (omega (arith, low, length-drop from piece))));
   }

@@ -8,7 +8,7 @@ use Rattle.lemmas_walks.proofs.Firsts.{by_test}
 use Rattle.lemmas_walks.proofs.Overlapping.{overlapping-nil}
 use Rattle.lemmas_walks.proofs.Words.{IsWord-append}
 use Rattle.rx_search.specs.Labels.{patterns_of, label_patterns}
-use Rattle.rx_search.proofs.Standing.{Standing, quit_label, no_patterns}
+use Rattle.rx_search.proofs.Standing.{Standing, quit_label}
 use Rattle.rx_search.proofs.Halves.{some_pattern}
 use Rattle.rx_search.proofs.Overlaps.{patterns_left, quit_tells_nothing}
 use Rattle.rx_stream.specs.Remaining.{events, told_over, pending}
@@ -45,12 +45,6 @@ module _ (t : Table) (ids : List ℕ) where
       → (units : List ℕ)
       → events (told_over t ids old units) ≡ StreamEvent.Match found ∷ events (told_over t ids new units)
   pattern_told old new {found} is units = grind (arith, common_steps)
-
-  -- a pattern of the row that is left
-  pub reads_pattern : {old new : Place} {found : HalfMatch} (piece : List ℕ) (from : ℕ)
-      → IsNextPattern t ids old new (Some found)
-      → IsRead t ids old new piece from (record { used = from; event = Some (StreamEvent.Match found) })
-  reads_pattern {old} {new} {found} piece from is = grind (arith, common_steps, pattern_told)
 
   module _ {old : Place} {piece : List ℕ} {from : ℕ} (none : pending t ids old ≡ []) where
     -- a match row that the walk met
@@ -116,19 +110,12 @@ module _ (t : Table) (ids : List ℕ) where
         → IsRead t ids old (record old { row = next; taken = old.taken + (length piece - from) }) piece from
         (record { used = length piece; event = None })
     reads_all {next} h walk = record {
-      tells = λ more w.
-          ap events (none_pending t ids old none (drop from piece ++ more) ∙ walk.goes_on old.taken more w
-          ∙ sym (none_pending t ids new no_more (drop (length piece) piece ++ more)));
-      on_time = λ e.
-          ap events (none_pending t ids new no_more []
-          ∙ overlapping-nil t.machine Direction.Forward (row_of ids next) new.taken);
+      tells = λ more w. grind (arith, common_steps, none_pending);
+      on_time = λ e. grind (arith, common_steps, none_pending, overlapping-nil, row_of);
     }
       where
         new : Place
         new = record old { row = next; taken = old.taken + (length piece - from) }
 
         no_more : pending t ids new ≡ []
-        no_more =
-            by_test (is_match t (row_of ids next))
-            (λ m. ap (λ (r : ℕ). drop old.told (patterns_of t r)) (walk.quiet m) ∙ none)
-            (λ e. no_pending t ids new (no_patterns (t.machine.label (row_of ids next)) e))
+        no_more = grind (arith, common_steps, by_test, is_match, row_of, no_pending)

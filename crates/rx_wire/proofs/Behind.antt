@@ -13,18 +13,11 @@ pub stands_more : {now new field : List ℕ} {at n : ℕ} → IsPut now new fiel
 stands_more {now} {new} {field} {at} {n} put text old h =
     grind (arith, common_steps, take_at, drop_at, length-append, drop-drop, append_assoc)
 
-whole_take : (n : ℕ) (xs : List ℕ) → n ≡ length xs → take n xs ≡ xs
-whole_take n xs e = grind (arith, common_steps)
-
-nothing_left : (n : ℕ) (xs : List ℕ) → n ≡ length xs → drop n xs ≡ []
-nothing_left n xs e = grind (arith, common_steps)
-
 -- a field written at the front of the bytes from a place on
 pub put_behind : (now part field : List ℕ) (at n : ℕ) → at ≤ length now → length field ≡ n
     → part ≡ field ++ drop n (take (length now - at) (drop at now))
     → IsPut now (take at now ++ (part ++ drop (length now - at) (drop at now))) field at n
-put_behind now part field at n le field_len is =
-    grind (arith, common_steps, length-drop, nothing_left, append-nil, whole_take)
+put_behind now part field at n le field_len is = grind (arith, common_steps, length-drop, append-nil)
 
 -- a field written in the place of as many bytes
 pub put_between : (now part field : List ℕ) (at end : ℕ) → end ≡ at + length field → part ≡ field

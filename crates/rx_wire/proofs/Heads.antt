@@ -45,8 +45,7 @@ prefix_len-label [] rest (suc k) text h = refl
 prefix_len-label (b ∷ label) rest zero text h = absurd (omega (arith, h))
 prefix_len-label (b ∷ label) rest (suc k) text h =
     let parts = and_parts (is_text b) (list_all is_text label) text in
-    let more = prefix_len-label label rest k parts.1 (omega (arith, h)) in
-    rw (parts.0, more) (omega arith)
+    rw (parts.0, prefix_len-label label rest k parts.1 (omega (arith, h))) (omega arith)
 
 pub label_again : (label : List ℕ) → IsLabel label
     → Reads (label_at label) (label_text label) (padded (length label + 1))

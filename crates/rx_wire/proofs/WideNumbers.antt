@@ -6,9 +6,6 @@ use Rattle.std.proofs.Math.Arith.{mod-mul}
 use Rattle.rx_wire.specs.declared.order.Order.{Order}
 use Rattle.rx_wire.specs.Fields.{field, number}
 
-swapped : (a b : ℕ) → a + b ≡ b + a
-swapped a b = omega arith
-
 some_power : (k : ℕ) → 0 < 256 ^ k
 some_power zero = omega arith
 some_power (suc k) =
@@ -19,20 +16,13 @@ lowest_bytes : (n k : ℕ) → sum_through (λ i. byte_worth i (byte_at i n)) k 
 lowest_bytes n zero = refl
 lowest_bytes n (suc k) =
     let worth : ℕ = 256 ^ suc k in
-    let step : 256 ^ suc (suc k) ≡ 256 * worth = grind (arith, common_steps) in
     let split : n % (256 * worth) ≡ (n / worth % 256) * worth + n % worth =
     mod-mul n {m = 256} {c = worth} (omega arith) (some_power (suc k)) in
     ap (λ (s : ℕ). s + byte_worth (suc k) (byte_at (suc k) n)) (lowest_bytes n k)
-    ∙ swapped (n % worth) ((n / worth % 256) * worth)
+    ∙ (omega arith)
     ∙ sym split
-    ∙ ap (λ (m : ℕ). n % m) (sym step)
-
--- a sum of 16, from its last summand on
-turned : (t0 t1 t2 t3 t4 t5 t6 t7 t8 t9 t10 t11 t12 t13 t14 t15 : ℕ)
-    → t15 + t14 + t13 + t12 + t11 + t10 + t9 + t8 + t7 + t6 + t5 + t4 + t3 + t2 + t1 + t0
-    ≡ t0 + t1 + t2 + t3 + t4 + t5 + t6 + t7 + t8 + t9 + t10 + t11 + t12 + t13 + t14 + t15
-turned t0 t1 t2 t3 t4 t5 t6 t7 t8 t9 t10 t11 t12 t13 t14 t15 = omega arith
+    ∙ ap (λ (m : ℕ). n % m) (sym (grind (arith, common_steps)))
 
 pub again128 : (order : Order) (n : ℕ) → n < 2 ^ 128 → number order w128 (field order w128 n) ≡ n
 again128 Order.Little n h = let whole : n % 256 ^ 16 ≡ n = omega (arith, h) in lowest_bytes n 15 ∙ whole
-again128 Order.Big n h = grind (arith, common_steps, turned, lowest_bytes)
+again128 Order.Big n h = grind (arith, common_steps, lowest_bytes)

@@ -19,9 +19,7 @@ word_at order bytes k = number order w32 (take 4 (drop (4 * k) bytes))
 module _ {A : Type 0} (part : A → List ℕ) (n : ℕ) (len : (x : A) → length (part x) ≡ n) where
   pub length-parts : (xs : List A) → length (flat_map part xs) ≡ n * length xs
   length-parts [] = omega arith
-  length-parts (x ∷ xs) =
-      let more : n * suc (length xs) ≡ n + n * length xs = omega arith in
-      omega (arith, length-append (part x) (flat_map part xs), len x, length-parts xs, more)
+  length-parts (x ∷ xs) = omega (arith, length-append (part x) (flat_map part xs), len x, length-parts xs)
 
   -- the bytes from the place of a part on begin with it, whatever follows
   pub part_there : (xs : List A) (rest : List ℕ) (k : ℕ) (none : A) → k < length xs

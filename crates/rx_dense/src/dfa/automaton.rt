@@ -9,7 +9,7 @@ ghost use Rattle.rx_base.specs.Search.{mode_of};
 ghost use Rattle.lemmas_tables.proofs.Ids.{dense_are_ids};
 ghost use Rattle.rx_search.specs.Labels.{patterns_of};
 ghost use Rattle.rx_search.specs.Starts.{IsId, refusal_of};
-ghost use Rattle.rx_dense.specs.Layouts.{ids_of, row_count, settings_of, table_of, universal_id};
+ghost use Rattle.rx_dense.specs.Layouts.{AreLists, ids_of, row_count, settings_of, table_of, universal_id};
 ghost use Rattle.rx_dense.specs.Facts.{IsSoundLayout, IsSoundLayout-fact};
 
 use crate::accel::needles_of;
@@ -167,7 +167,10 @@ impl<T: WordStore> Automaton for DFA<T> {
         self.special().is_accel_state(id)
     }
 
-    fn pattern_len(&self) -> usize {
+    fn pattern_len(&self) -> usize
+        ensures value { result ≡ self.now.pattern_len }
+        ensures lists { AreLists self.now }
+    {
         self.pattern_len
     }
 

@@ -2,8 +2,8 @@
 
 ghost use Rattle.std.specs.Prelude.{◌≡◌, ℕ, ◌<◌, ◌≤◌, ◌⊎◌, ◌+◌, ◌*◌, ◌/◌, ◌%◌, ◌^◌, length, slice_index, map, All};
 ghost use Rattle.rx_search.specs.Starts.{IsId};
-ghost use Rattle.rx_dense.specs.Builder.{AreSwapped, IsCopied, IsMachineRenamed, renamed};
-ghost use Rattle.rx_dense.specs.Builder.{with_renamed_row, with_rows};
+ghost use Rattle.rx_dense.specs.Builder.{AreSwapped, IsCopied, IsMachineRenamed, kept, renamed};
+ghost use Rattle.rx_dense.specs.Builder.{AreMovedDown, IsMovedDown, with_renamed_row, with_rows};
 ghost use Rattle.rx_dense.specs.Layouts.{AreRows, ids_of, row_count, stride};
 
 use crate::DFA;
@@ -84,6 +84,24 @@ impl DFA<Vec<u32>> {
         self.marks.clear();
         self.words.truncate(len * width);
     }
+
+    /// Keeps these rows, two at least, each at its index among them, and cuts off the others. Whatever led to a row,
+    /// from a row or as a start entry, leads to the row whose id the map has at that row's number. No row moves up.
+    pub fn keep_states(&mut self, rows: &[u32], map: &[StateID])
+        requires two { 2 ≤ length rows.now }
+        requires within { (k : ℕ) → k < length rows.now → slice_index rows.now k < row_count self.old }
+        requires down { (k : ℕ) → k < length rows.now → k ≤ slice_index rows.now k }
+        requires count { length map.now ≡ row_count self.old }
+        requires ids { All (IsId (ids_of (with_rows self.old (length rows.now)))) map.now }
+        ensures { self.new ≡ kept self.old rows.now map.now }
+    {
+        let stride2 = self.stride2();
+        let alphabet_len = self.alphabet_len();
+        self.marks.clear();
+        move_rows_down(&mut self.words, rows, map, stride2, alphabet_len);
+        self.words.truncate(rows.len() << stride2);
+        rename(&mut self.starts, map, stride2);
+    }
 }
 
 /// Exchanges two rows of so many words, which lie apart.
@@ -109,6 +127,50 @@ fn copy_row(words: &mut [u32], from: usize, to: usize, width: usize)
 {
     for column in 0..width {
         words[to + column] = words[from + column];
+    }
+}
+
+/// Moves each of these rows down to its index among them, and gives each of its entries way to the id that a list has
+/// for its row.
+fn move_rows_down(
+    words: &mut [u32],
+    rows: &[u32],
+    new_ids: &[StateID],
+    stride2: usize,
+    alphabet_len: usize,
+)
+    requires exponent { stride2 ≤ 9 }
+    requires fits { alphabet_len ≤ 2 ^ stride2 }
+    requires within { (k : ℕ) → k < length rows.now → slice_index rows.now k < length words.old / 2 ^ stride2 }
+    requires down { (k : ℕ) → k < length rows.now → k ≤ slice_index rows.now k }
+    requires ids { All (λ id. id / 2 ^ stride2 < length new_ids.now) words.old }
+    ensures { AreMovedDown stride2 alphabet_len new_ids.now rows.now (length rows.now) words.old words.new }
+{
+    for place in 0..rows.len() {
+        let to = place << stride2;
+        let from = (rows[place] as usize) << stride2;
+        move_row_down(words, from, to, new_ids, stride2, alphabet_len);
+    }
+}
+
+/// Gives the first words of a row way to the ids that a list has for the rows to which another one leads, which lies
+/// apart or is the same.
+fn move_row_down(
+    words: &mut [u32],
+    from: usize,
+    to: usize,
+    new_ids: &[StateID],
+    stride2: usize,
+    width: usize,
+)
+    requires exponent { stride2 ≤ 9 }
+    requires from_within { from + width ≤ length words.old }
+    requires down { (to ≡ from) ⊎ (to + width ≤ from) }
+    requires ids { (c : ℕ) → c < width → slice_index words.old (from + c) / 2 ^ stride2 < length new_ids.now }
+    ensures { IsMovedDown stride2 new_ids.now width words.old words.new from to }
+{
+    for column in 0..width {
+        words[to + column] = new_ids[(words[from + column] >> stride2) as usize].as_u32();
     }
 }
 

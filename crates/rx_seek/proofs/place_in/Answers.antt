@@ -1,22 +1,12 @@
-use Rattle.rx_spec.proofs.Prelude.{◌≡◌, ◌∙◌, ◌+◌, ◌<◌, arith, None, Option, Some, ℕ, sym, subst, get_or_default}
-use Rattle.rx_spec.proofs.Prelude.{MatchOption}
+use Rattle.std.proofs.lemmas.Grind.{common_steps}
+use Rattle.rx_spec.proofs.Prelude.{◌≡◌, ◌∙◌, ◌<◌, arith, None, Option, Some, ℕ, sym, subst, get_or_default, MatchOption}
 use Rattle.rx_seek.specs.Seeking.{IsFirstShown}
 use Rattle.rx_seek.proofs.Showing.{IsPart, first_shown, none_shown, not_some}
 use Rattle.rx_seek.proofs.place_in.Goals as goal
 
 pub returns-in-Some-clause-first : goal.returns-in-Some-clause-first
 returns-in-Some-clause-first c =
-    let part : IsPart c.args.window.now c.args.base c.args.span.now.start c.args.span.now.end c.min-low.result
-    c.min-high.result = record {
-      high_is = omega (arith, c.min-high.ensures, c.saturating_sub.ensures);
-      low_is = omega (arith, c.min-low.ensures, c.saturating_sub-2.ensures);
-    } in
-    let none = not_some c.args.known (sym c.is_some.ensures ∙ c.if-is_some.false) in
-    subst (λ (known : Option ℕ). MatchOption known
-    (IsFirstShown c.args.window.now c.args.finder.now c.args.base c.args.span.now.start c.args.span.now.end
-    (Some (c.args.base + c.min-low.result + c.in-Some.place)))
-    (λ (place : ℕ). Some (c.args.base + c.min-low.result + c.in-Some.place) ≡ Some place)) (sym none)
-    (first_shown part c.requires.literal c.in-Some.place c.in-Some.ensures)
+    grind (arith, common_steps, first_shown)
 
 pub returns-in-Some-clause-bytes : goal.returns-in-Some-clause-bytes
 returns-in-Some-clause-bytes c = λ k d h.
@@ -26,8 +16,8 @@ pub returns-in-None-clause-first : goal.returns-in-None-clause-first
 returns-in-None-clause-first c =
     let part : IsPart c.args.window.now c.args.base c.args.span.now.start c.args.span.now.end c.min-low.result
     c.min-high.result = record {
-      high_is = omega (arith, c.min-high.ensures, c.saturating_sub.ensures);
-      low_is = omega (arith, c.min-low.ensures, c.saturating_sub-2.ensures);
+      high_is = omega arith;
+      low_is = omega arith;
     } in
     let none = not_some c.args.known (sym c.is_some.ensures ∙ c.if-is_some.false) in
     subst (λ (known : Option ℕ). MatchOption known

@@ -22,10 +22,9 @@ pieces-preserved g c =
     let kept = c.pieces.kept in
     let count = c.in-Got.count in
     let room = c.min-room.result in
-    let within = u.are_kept.few in
     let full = c.pieces.invariant.room in
     let len = c.read_behind.ensures.len in
-    let fits : kept ≤ length buffer = omega (arith, within, full, len) in
+    let fits : kept ≤ length buffer = omega arith in
     let read = take count (take room (drop kept buffer)) in
     let shows = shows_read kept room count c.pieces.buffer buffer c.read_behind.ensures.kept got.1 fits
     c.place_in-sought.ensures.bytes in
@@ -41,12 +40,12 @@ pieces-preserved g c =
           (c.min-kept.ensures ∙ ap (λ (more : ℕ). min (kept + more) (length c.args.literal.now - 1)) (sym n))
           (λ i h.
           let there : kept + count - c.min-kept.result + (i - 0) ≡ kept + length read - c.min-kept.result + i =
-          omega (arith, n) in
-          c.copy_within.ensures.by_index.0 i 0 (omega arith) (omega (arith, h, c.min-kept.ensures))
+          omega arith in
+          c.copy_within.ensures.by_index.0 i 0 (omega arith) (omega arith)
           ∙ ap (slice_index buffer) there
           ∙ sym (get_or-take (kept + count) buffer (kept + length read - c.min-kept.result + i) 0
-          (omega (arith, h, n, c.min-kept.ensures)))));
+          (omega arith))));
       room = c.copy_within.ensures.len ∙ len ∙ full;
-      few = omega (arith, length-take room (drop kept buffer), got.1, c.min-room.ensures, c.pieces-test.true);
-      counted = omega (arith, c.pieces.invariant.counted, c.in-Got.ensures.cause);
+      few = omega (arith, length-take room (drop kept buffer));
+      counted = omega (arith, c.in-Got.ensures.cause);
     }

@@ -4,27 +4,23 @@ use Rattle.rx_dense.specs.Parts.{layout_of}
 use Rattle.rx_dense.specs.Layouts.{IsRowId, stride}
 use Rattle.rx_dense_image.specs.Closing.{has_needles, range_len}
 use Rattle.rx_dense_image.proofs.EachBelow.{all_of, not_all}
-use Rattle.rx_dense_image.proofs.AccelRows.{first_accel, last_accel, range_row}
+use Rattle.rx_dense_image.proofs.AccelRows.{range_row, row_id_of, special_rows}
 use Rattle.rx_dense_image.proofs.closing.accels_stand.Goals as goal
-
-same_place : (a b i s t : ℕ) → a ≡ b → s ≡ t → b + i * t ≡ a + i * s
-same_place a b i s t e f = cc
 
 pub has_needles-requires-clause-row : goal.has_needles-requires-clause-row
 has_needles-requires-clause-row c =
     let l = layout_of c.args.parts.now in
-    let first = first_accel l c.requires.rows c.requires.special in
-    let last = last_accel l c.requires.rows c.requires.special in
+    let first = row_id_of l c.requires.rows l.special.min_accel (special_rows l c.requires.special).min_accel in
+    let last = row_id_of l c.requires.rows l.special.max_accel (special_rows l c.requires.special).max_accel in
     let row : IsRowId l (l.special.min_accel + c.loop-i.i * stride l) =
     range_row l c.requires.rows l.special.min_accel l.special.max_accel c.loop-i.i first last
     (subst (λ (n : ℕ). c.loop-i.i < n) (c.if-len-range_len.false ∙ c.range_len.ensures) c.loop-i-test.true) in
-    subst (IsRowId l) (same_place _ _ c.loop-i.i _ _ c.as_usize-first.ensures.value c.stride-stride.ensures.value) row
+    subst (IsRowId l) (cc) row
 
 pub loop-i-preserved : goal.loop-i-preserved
 loop-i-preserved c =
     let l = layout_of c.args.parts.now in
-    let has : c.has_needles.result ≡ true = search rules in
-    below_more (λ k. has_needles l k ≡ true) c.loop-i.i c.loop-i.invariant (sym c.has_needles.ensures ∙ has)
+    below_more (λ k. has_needles l k ≡ true) c.loop-i.i c.loop-i.invariant (sym c.has_needles.ensures ∙ (search rules))
 
 pub returns-then-not-has_needles : goal.returns-then-not-has_needles
 returns-then-not-has_needles c =

@@ -16,20 +16,18 @@ pub loop-row-preserved : goal.loop-row-preserved
 loop-row-preserved c =
     let l = layout_of c.args.parts.now in
     let row : ℕ = c.loop-row.row in
-    let named : c.is_named.result ≡ true = search rules in
     let here : row_named l row ≡ true =
     sym (ap (λ (s : ℕ). is_named l.special (row * s)) c.stride-stride.ensures.value)
-    ∙ sym c.is_named.ensures ∙ named in
+    ∙ sym c.is_named.ensures ∙ (search rules) in
     below_more (λ k. row_named l k ≡ true) row c.loop-row.invariant here
 
 pub returns-then-not-is_named : goal.returns-then-not-is_named
 returns-then-not-is_named c =
     let l = layout_of c.args.parts.now in
     let row : ℕ = c.loop-row.row in
-    let named : c.is_named.result ≡ false = search rules in
     let here : row_named l row ≡ false =
     sym (ap (λ (s : ℕ). is_named l.special (row * s)) c.stride-stride.ensures.value)
-    ∙ sym c.is_named.ensures ∙ named in
+    ∙ sym c.is_named.ensures ∙ (search rules) in
     let count = same_count _ _ _ _ c.as_usize.ensures.value c.stride-stride.ensures.value in
     sym (not_all (l.special.max / stride l + 1) (row_named l) row (omega arith) here)
 

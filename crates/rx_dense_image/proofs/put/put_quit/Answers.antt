@@ -1,10 +1,9 @@
-use Rattle.rx_dense_image.proofs.Behind.{and_then, of_wide}
-use Rattle.rx_dense_image.proofs.Halves.{high_half, low_half}
+use Rattle.rx_dense_image.proofs.Behind.{and_then, put_same}
 use Rattle.rx_dense_image.proofs.put.put_quit.Goals as goal
+use Rattle.rx_wire.specs.Fields.{field}
+use Rattle.rx_spec.proofs.Prelude.{ap, w128, arith}
 
 pub returns-clause-put : goal.returns-clause-put
 returns-clause-put g c =
-    let order = g.E.Endian.order in
-    let fits = c.put_wide-end.ensures.fits in
-    and_then (of_wide order (low_half _ _ _ fits c.halves-low.ensures) c.put_wide-end.ensures.put)
-    (of_wide order (high_half _ _ _ fits c.halves-low.ensures) c.put_wide.ensures.put)
+    and_then (put_same (ap (field g.E.Endian.order w128) (omega arith)) c.put_wide-end.ensures.put)
+    (put_same (ap (field g.E.Endian.order w128) (omega (arith, c.put_wide-end.ensures.fits))) c.put_wide.ensures.put)

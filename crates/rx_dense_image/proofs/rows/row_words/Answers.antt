@@ -4,7 +4,7 @@ use Rattle.rx_dense_image.specs.Rows.{cleared, word_at}
 use Rattle.rx_dense_image.specs.Bulk.{column_forbidden, each_below, may_stand, word_stands}
 use Rattle.rx_dense_image.proofs.Padding.{padded}
 use Rattle.rx_dense_image.proofs.WordBytes.{below_cong}
-use Rattle.rx_dense_image.proofs.ColumnMasks.{IsBytes, kept_cleared, stands_column}
+use Rattle.rx_dense_image.proofs.ColumnMasks.{kept_cleared, stands_column}
 use Rattle.rx_dense_image.proofs.rows.row_words.Goals as goal
 
 pub returns-clause-words : goal.returns-clause-words
@@ -12,19 +12,17 @@ returns-clause-words c =
     let s : ℕ = c.args.shape.stride2 in
     let alphabet : ℕ = c.args.shape.alphabet in
     let bytes = c.args.bytes.now in
-    let fits : IsBytes bytes = λ i. omega (arith, c.type_inv.bytes i) in
     fill_by_all (λ k. cleared (2 ^ s) alphabet k (word_at c.args.order bytes k)) c.in_ok-words.words.items c.args.count
     0 c.in_ok-words.ensures.len
     (λ k lt.
     c.in_ok-words.ensures.words k lt
-    ∙ kept_cleared c.columns_of-columns.ensures.of bytes fits k
+    ∙ kept_cleared c.columns_of-columns.ensures.of bytes (λ i. omega (arith, c.type_inv.bytes i)) k
     ∙ ap (λ (order : Order). cleared (2 ^ s) alphabet k (word_at order bytes k)) c.columns_of-columns.ensures.order)
 
 pub returns-clause-past : goal.returns-clause-past
 returns-clause-past c =
-    let stride : ℕ = 2 ^ c.args.shape.stride2 in
     let word : ℕ → ℕ = word_at c.args.order c.args.bytes.now in
-    padded stride c.args.shape.alphabet c.args.count word _ (returns-clause-words c)
+    padded (2 ^ c.args.shape.stride2) c.args.shape.alphabet c.args.count word _ (returns-clause-words c)
 
 pub returns-clause-sound : goal.returns-clause-sound
 returns-clause-sound c =

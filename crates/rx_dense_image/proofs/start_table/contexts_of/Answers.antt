@@ -11,7 +11,6 @@ of_place numbers k = context_of (slice_index numbers k)
 
 pub loop-byte-preserved : goal.loop-byte-preserved
 loop-byte-preserved c =
-    let numbers = c.args.numbers.now in
     let byte : ℕ = c.loop-byte.byte in
     let contexts = c.loop-byte.contexts in
     let lt : byte < length contexts = omega arith in
@@ -20,17 +19,16 @@ loop-byte-preserved c =
       each =
           subst
           (λ (x : Start).
-          (k : ℕ) → k < byte + 1 → get_or (set contexts byte x) k Start.NonWordByte ≡ of_place numbers k)
+          (k : ℕ) → k < byte + 1 → get_or (set contexts byte x) k Start.NonWordByte ≡ of_place c.args.numbers.now k)
           (sym c.context_of.ensures)
-          (fill_by_more (of_place numbers) contexts byte Start.NonWordByte lt c.loop-byte.invariant.each);
+          (fill_by_more (of_place c.args.numbers.now) contexts byte Start.NonWordByte lt c.loop-byte.invariant.each);
     }
 
 pub returns : goal.returns
 returns c =
     let numbers = c.args.numbers.now in
-    let contexts = c.loop-byte.contexts in
     let in_order : numbers ≡ map (λ k. slice_index numbers k) (range_with_len 0 256) =
     fill_by_all (λ k. slice_index numbers k) numbers 256 0 c.requires (λ k lt. refl) in
-    fill_by_all (of_place numbers) contexts 256 Start.NonWordByte c.loop-byte.invariant.len
+    fill_by_all (of_place numbers) c.loop-byte.contexts 256 Start.NonWordByte c.loop-byte.invariant.len
     (λ k lt. c.loop-byte.invariant.each k (omega arith))
     ∙ sym (ap (map context_of) in_order ∙ map-map context_of (λ k. slice_index numbers k) (range_with_len 0 256))

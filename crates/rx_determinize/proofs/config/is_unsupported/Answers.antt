@@ -1,5 +1,5 @@
 use Rattle.rx_spec.proofs.Prelude.{arith, common_steps}
-use Rattle.rx_expr.specs.Nfa.{meaning}
+use Rattle.rx_determinize.proofs.Prelude.{meaning}
 use Rattle.rx_expr.proofs.UnicodeWords.{unicode_told}
 use Rattle.rx_determinize.proofs.config.is_unsupported.Goals as goal
 

@@ -1,5 +1,5 @@
 use Rattle.rx_spec.proofs.Prelude.{arith, common_steps}
-use Rattle.lemmas_walks.proofs.QuitSets.{contains-empty}
+use Rattle.rx_determinize.proofs.Prelude.{contains-empty}
 use Rattle.rx_determinize.proofs.construction.is_quit.Goals as goal
 
 pub returns-then-is_empty : goal.returns-then-is_empty

@@ -1,6 +1,5 @@
 use Rattle.rx_spec.proofs.Prelude.{common_steps, ◌≡◌, ◌*◌, length, sym, subst, arith, pow_pos}
-use Rattle.rx_dense.proofs.Rows.{multiple_below}
-use Rattle.rx_dense.specs.Layouts.{IsRowId, stride}
+use Rattle.rx_determinize.proofs.Prelude.{IsRowId, multiple_below, stride}
 use Rattle.rx_determinize.proofs.RowIds.{row_is_id, row_id as row_at}
 use Rattle.rx_determinize.proofs.states.row_id.Goals as goal
 

@@ -6,15 +6,6 @@ use Rattle.rx_equal.proofs.FourRows.{three_closed, three_pairs}
 use Rattle.rx_equal.proofs.Meets.{evidence_closed}
 use Rattle.rx_equal.proofs.examples.evidence.Goals as goal
 
-pub returns-clause-whole : goal.returns-clause-whole
-returns-clause-whole c =
-    record { pairs = three_pairs 3 3; named = refl; closed = three_closed 2 3 3 (0 ∷ []) (0 ∷ []) refl refl refl }
-
-pub returns-clause-no_start : goal.returns-clause-no_start
-returns-clause-no_start c = λ evidence.
-    Contains-nil (record { row = 2; other = 2 })
-    ((evidence_closed {pairs = []} refl evidence).starts at_edge (record { mode = tt; beside = tt }))
-
 abbrev two_pairs : List RowPair
 two_pairs = record { row = 2; other = 2 } ∷ record { row = 3; other = 3 } ∷ []
 
@@ -29,18 +20,21 @@ no_dead (zero, h, e) = is_live 1 (record { row = 2; other = 2 }) e refl
 no_dead (suc zero, h, e) = is_live 2 (record { row = 3; other = 3 }) e refl
 no_dead (suc (suc k), h, e) = omega arith
 
-pub returns-clause-no_next : goal.returns-clause-no_next
-returns-clause-no_next c = λ evidence.
-    no_dead ((evidence_closed {pairs = two_pairs} refl evidence).nexts (record { row = 2; other = 2 }) 256
-    (0, omega arith, refl) (omega arith))
-
-pub returns-clause-no_pair : goal.returns-clause-no_pair
-returns-clause-no_pair c = λ evidence. cc evidence.named
-
 first_is_no_second : Label.Matches (0 ∷ []) ≡ Label.Matches (1 ∷ []) → ⊥
 first_is_no_second e = cc
 
-pub returns-clause-other_pattern : goal.returns-clause-other_pattern
-returns-clause-other_pattern c = λ evidence.
-    first_is_no_second ((evidence_closed {pairs = three_pairs 3 3} refl evidence).labels
-    (record { row = 3; other = 3 }) (1, omega arith, refl))
+pub returns : goal.returns
+returns c = record {
+  whole =
+      record { pairs = three_pairs 3 3; named = refl; closed = three_closed 2 3 3 (0 ∷ []) (0 ∷ []) refl refl refl };
+  no_start = λ evidence.
+      Contains-nil (record { row = 2; other = 2 })
+      ((evidence_closed {pairs = []} refl evidence).starts at_edge (record { mode = tt; beside = tt }));
+  no_next = λ evidence.
+      no_dead ((evidence_closed {pairs = two_pairs} refl evidence).nexts (record { row = 2; other = 2 }) 256
+      (0, omega arith, refl) (omega arith));
+  no_pair = λ evidence. cc evidence.named;
+  other_pattern = λ evidence.
+      first_is_no_second ((evidence_closed {pairs = three_pairs 3 3} refl evidence).labels
+      (record { row = 3; other = 3 }) (1, omega arith, refl));
+}

@@ -12,21 +12,12 @@ order_counts e = cc
 quit_is_told : Label.Quits ≡ Label.Plain → ⊥
 quit_is_told e = cc
 
-pub returns-clause-which : goal.returns-clause-which
+pub returns : goal.returns
 unfolding run
-returns-clause-which c = (tt, first_is_no_second)
-
-pub returns-clause-order : goal.returns-clause-order
-unfolding run
-returns-clause-order c = (tt, order_counts)
-
-pub returns-clause-no_byte : goal.returns-clause-no_byte
-unfolding run
-returns-clause-no_byte c = λ parting. parting.1 refl
-
-pub returns-clause-quit : goal.returns-clause-quit
-unfolding run
-returns-clause-quit c = (tt, quit_is_told)
-
-pub returns-clause-silent : goal.returns-clause-silent
-returns-clause-silent c = nothing_parts (three_closed 0 3 0 [] [] refl refl refl)
+returns c = record {
+  which = (tt, first_is_no_second);
+  order = (tt, order_counts);
+  no_byte = λ parting. parting.1 refl;
+  quit = (tt, quit_is_told);
+  silent = nothing_parts (three_closed 0 3 0 [] [] refl refl refl);
+}

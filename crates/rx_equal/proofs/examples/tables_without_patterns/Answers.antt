@@ -10,9 +10,6 @@ t = no_patterns (Some 0)
 abbrev u : Table
 u = no_patterns None
 
-pub returns-clause-parts : goal.returns-clause-parts
-returns-clause-parts c = starts_of_no_pattern t u 0 refl refl
-
 -- both begin in a mode of no pattern, or quit by one byte
 abbrev AlikeIn : Anchored → Type 0
 AlikeIn mode = (beside : Option ℕ) (word : List ℕ)
@@ -33,8 +30,5 @@ alone beside Anchored.No word parting = absurd (parting.1 (no_alike beside word)
 alone beside Anchored.Yes word parting = absurd (parting.1 (yes_alike beside word))
 alone beside (Anchored.Pattern k) word parting = grind (arith, common_steps)
 
-pub returns-clause-alone : goal.returns-clause-alone
-returns-clause-alone c = λ place word parting. alone place.beside place.mode word parting
-
-pub returns-clause-dead_starts : goal.returns-clause-dead_starts
-returns-clause-dead_starts c = grind (arith, common_steps)
+pub returns : goal.returns
+returns c = grind (arith, common_steps, starts_of_no_pattern, alone)

@@ -1,9 +1,9 @@
-use Rattle.rx_spec.proofs.Prelude.{common_steps, Some, refl, ◌∙◌, subst, arith, Appends, []}
+use Rattle.rx_spec.proofs.Prelude.{common_steps, Some, refl, ◌∙◌, subst, arith, Appends, [], append-nil}
 use Rattle.rx_search.proofs.Cursors.{at_same}
 use Rattle.rx_stream.specs.Calls.{IsFinished}
 use Rattle.rx_feed.specs.Lines.{end_line}
 use Rattle.rx_transfer.specs.Outside.{AppendsFront}
-use Rattle.rx_feed.proofs.Pieces.{finishes_broken, finishes_more, finishes_over}
+use Rattle.rx_feed.proofs.Pieces.{finishes_broken, finishes_more}
 use Rattle.rx_feed.proofs.Fronts.{writes_after}
 use Rattle.rx_feed.proofs.piece.finish.Goals as goal
 
@@ -33,4 +33,4 @@ events-preserved g c =
     }
 
 pub returns-clause-written : goal.returns-clause-written
-returns-clause-written g c = grind (arith, common_steps, at_same, writes_after, finishes_over)
+returns-clause-written g c = grind (arith, common_steps, at_same, writes_after, append-nil)

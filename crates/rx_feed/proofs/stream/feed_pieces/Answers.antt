@@ -52,14 +52,13 @@ pub pieces-preserved : goal.pieces-preserved
 pieces-preserved g c =
     let a = g.A.Automaton in
     let at = (goal.at.pieces-preserved g c).After-feed_piece in
-    let piece = got g at in
     let read = at_same a.table a.ids (λ t i. IsRead t i c.pieces.searcher.place c.feed_piece.new.searcher.place
     (piece_of g at) (written_of g at)) c.pieces.invariant.table c.in-Over.ensures.fed in
     record {
       table = c.feed_piece.ensures.table ∙ c.pieces.invariant.table;
-      read = has_read_more c.pieces.invariant.read piece read;
-      taken = omega (arith, c.pieces.invariant.taken, read.taken, piece.len);
-      few = omega (arith, c.pieces-test.true, piece.short);
+      read = has_read_more c.pieces.invariant.read (got g at) read;
+      taken = omega (arith, c.pieces.invariant.taken, read.taken, (got g at).len);
+      few = omega (arith, c.pieces-test.true, (got g at).short);
       source_faults = omega (arith, c.pieces.invariant.source_faults, c.in-Got.ensures.cause);
       sink_faults = omega (arith, c.pieces.invariant.sink_faults, c.feed_piece.ensures.counted);
     }

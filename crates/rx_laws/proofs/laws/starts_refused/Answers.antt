@@ -8,11 +8,9 @@ by_mode : (s : Settings) (beside : Option ℕ) (mode : Anchored)
 by_mode s None mode none = refl
 by_mode s (Some byte) mode none = rw (none byte refl) refl
 
-pub returns-clause-by_byte : goal.returns-clause-by_byte
-returns-clause-by_byte c = λ s byte mode quits. rw quits refl
-
-pub returns-clause-by_mode : goal.returns-clause-by_mode
-returns-clause-by_mode c = by_mode
-
-pub returns-clause-done : goal.returns-clause-done
-returns-clause-done c = λ t direction q done. half_when_done t.machine t.settings direction q done
+pub returns : goal.returns
+returns c = record {
+  by_byte = λ s byte mode quits. rw quits refl;
+  by_mode = by_mode;
+  done = λ t direction q done. half_when_done t.machine t.settings direction q done;
+}

@@ -7,7 +7,7 @@ pub returns-in-Ok : goal.returns-in-Ok
 returns-in-Ok c =
     IfOk-weaker c.accepted_reply.result _ _
     (λ reply told.
-    rw (c.state_len.ensures.value, c.pattern_len.ensures) at told
+    rw (c.state_len.ensures.value, c.pattern_len.ensures.value) at told
     ∙ sym (ap (reading_reply dense_reply) c.in-Ok.ensures.read))
     c.accepted_reply.ensures
 

@@ -1,19 +1,16 @@
+use Rattle.rx_spec.proofs.Prelude.{rules}
 use Rattle.rx_meaning.proofs.SplitBounds.{half_unsplit_in_bounds, overlapping_unsplit_in_bounds}
 use Rattle.rx_meaning.proofs.JoinBounds.{join_in_bounds}
 use Rattle.rx_meaning.proofs.TableBounds.{half_in_bounds, overlapping_in_bounds}
 use Rattle.rx_meaning.proofs.bounds.told_in_bounds.Goals as goal
 
-pub returns-clause-half : goal.returns-clause-half
-returns-clause-half c = half_in_bounds
-
-pub returns-clause-half_unsplit : goal.returns-clause-half_unsplit
-returns-clause-half_unsplit c = half_unsplit_in_bounds
-
-pub returns-clause-overlapping : goal.returns-clause-overlapping
-returns-clause-overlapping c = overlapping_in_bounds
-
-pub returns-clause-overlapping_unsplit : goal.returns-clause-overlapping_unsplit
-returns-clause-overlapping_unsplit c = overlapping_unsplit_in_bounds
-
-pub returns-clause-join : goal.returns-clause-join
-returns-clause-join c = join_in_bounds
+pub returns : goal.returns
+returns c =
+    search (
+      rules,
+      half_in_bounds,
+      half_unsplit_in_bounds,
+      overlapping_in_bounds,
+      overlapping_unsplit_in_bounds,
+      join_in_bounds,
+    )

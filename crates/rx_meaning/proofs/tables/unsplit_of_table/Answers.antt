@@ -1,8 +1,6 @@
+use Rattle.rx_spec.proofs.Prelude.{rules}
 use Rattle.rx_meaning.proofs.ServedSearches.{half_unsplit_of_table, overlapping_unsplit_of_table}
 use Rattle.rx_meaning.proofs.tables.unsplit_of_table.Goals as goal
 
-pub returns-clause-half : goal.returns-clause-half
-returns-clause-half c = half_unsplit_of_table
-
-pub returns-clause-overlapping : goal.returns-clause-overlapping
-returns-clause-overlapping c = overlapping_unsplit_of_table
+pub returns : goal.returns
+returns c = search (rules, half_unsplit_of_table, overlapping_unsplit_of_table)

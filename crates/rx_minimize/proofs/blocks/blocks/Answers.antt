@@ -1,10 +1,8 @@
 use Rattle.rx_spec.proofs.Prelude.{common_steps, ◌≡◌, ◌<◌, ◌∙◌, ℕ, All, Vec, Global, List, length, sym, subst, arith}
 use Rattle.rx_spec.proofs.Prelude.{IfOk-weaker}
+use Rattle.rx_minimize.proofs.Prelude.{AreBlocks, AreByLabel, Layout, table_of}
 use Rattle.rx_base.proofs.Classes.{alphabet_len-le}
 use Rattle.rx_refine.specs.Moves.{Moves, AreAlikeByNumber, AreToldByNumber}
-use Rattle.rx_dense.specs.Layouts.{Layout, table_of}
-use Rattle.rx_minimize.specs.Blocks.{AreBlocks}
-use Rattle.rx_minimize.specs.LabelNumbers.{AreByLabel}
 use Rattle.rx_minimize.proofs.ColumnMoves.{AreMovesOf, both, entries_below, reads_few, refined}
 use Rattle.rx_minimize.proofs.Shaped.{rows_few}
 use Rattle.rx_minimize.proofs.blocks.blocks.Goals as goal

@@ -1,8 +1,6 @@
-use Rattle.rx_spec.proofs.Prelude.{common_steps, ◌≡◌, ◌*◌, ◌==◌, ◌&&◌, ◌∙◌, ℕ, Bool, false, nat_lt, slice_index, ap}
-use Rattle.rx_spec.proofs.Prelude.{ap₂, sym, subst, arith, list_any, get_or_default, row_of, is_match}
-use Rattle.rx_search.specs.Starts.{IsId}
-use Rattle.rx_dense.specs.Layouts.{Layout, ids_of, stride, table_of}
-use Rattle.rx_order.specs.RowOrder.{kind_by, kind_of}
+use Rattle.rx_spec.proofs.Prelude.{common_steps, ◌≡◌, ◌*◌, ◌==◌, ◌∙◌, ℕ, false, slice_index, ap, sym, subst, arith}
+use Rattle.rx_spec.proofs.Prelude.{list_any, get_or_default, row_of, is_match}
+use Rattle.rx_minimize.proofs.Prelude.{IsId, Layout, ids_of, kind_of, stride, table_of}
 use Rattle.rx_order.proofs.Sorted.{id_of_number}
 use Rattle.rx_minimize.proofs.KeptEnds.{AreEndsUpTo, kind_ended, place_begun, place_ended}
 use Rattle.rx_minimize.proofs.kinds.ends.Goals.{After-must-id}
@@ -39,9 +37,7 @@ kinds-init c =
     ∙ get_or_default c.in_ok-starts.starts.items row c.index.result.now false (omega (arith, starts.count, low))
     ∙ starts.starts_are row low in
     let kind : c.kind-other.result ≡ kind_of l row =
-    c.kind-other.ensures.value
-    ∙ ap₂ (λ (m a : Bool). kind_by row m a (nat_lt 1 row && c.index.result.now)) matches accel
-    ∙ ap (λ s. kind_by row (is_match (table_of l) row) ((table_of l).is_accelerated row) (nat_lt 1 row && s)) flag in
+    grind (arith, common_steps, c.kind-other.ensures.value, c.index.result.now) in
     subst (AreEndsUpTo l c.args.firsts.now c.rows.ends c.rows.place) (sym kind) (place_begun c.rows.invariant)
 
 pub kinds-preserved : goal.kinds-preserved

@@ -1,5 +1,5 @@
 use Rattle.rx_spec.proofs.Prelude.{sym, arith, row_of}
-use Rattle.rx_dense.specs.Layouts.{ids_of, table_of}
+use Rattle.rx_minimize.proofs.Prelude.{ids_of, table_of}
 use Rattle.rx_minimize.proofs.LabelLists.{IsInterned, interned_below, match_added}
 use Rattle.rx_minimize.proofs.labels.label.Goals as goal
 

@@ -1,9 +1,7 @@
 use Rattle.rx_spec.proofs.Prelude.{◌≡◌, ◌+◌, ◌*◌, ◌<◌, ◌≤◌, ◌∙◌, ℕ, length, ap, sym, subst, arith, ⊎_elim}
 use Rattle.rx_spec.proofs.Prelude.{get_or_default, mod-eq_of_lt, row_of}
-use Rattle.rx_search.specs.Starts.{IsId}
-use Rattle.rx_dense.specs.Layouts.{Layout, ids_of, row_count, stride, table_of}
-use Rattle.rx_dense.proofs.Rows.{IsId-row_id, IsRowId-row, id_few, row_of-row}
-use Rattle.rx_minimize.specs.LabelNumbers.{AddsLabel}
+use Rattle.rx_minimize.proofs.Prelude.{AddsLabel, IsId, IsId-row_id, IsRowId-row, Layout, id_few, ids_of, row_count}
+use Rattle.rx_minimize.proofs.Prelude.{row_of-row, stride, table_of}
 use Rattle.rx_minimize.proofs.LabelLists.{AreLabelled, all_labelled, one_labelled}
 use Rattle.rx_minimize.proofs.Shaped.{rows_few}
 use Rattle.rx_minimize.proofs.labels.labels.Goals as goal

@@ -1,4 +1,4 @@
-use Rattle.rx_dense.specs.Layouts.{table_of}
+use Rattle.rx_minimize.proofs.Prelude.{table_of}
 use Rattle.rx_minimize.proofs.LabelLists.{AreLabelled}
 use Rattle.rx_minimize.proofs.labels.labels.Given as goal
 

@@ -1,11 +1,10 @@
 use Rattle.rx_spec.proofs.Prelude.{common_steps, ◌≡◌, ◌^◌, ◌-◌, ◌==◌, ◌∙◌, ℕ, Bool, not, List, map, slice_index, refl}
 use Rattle.rx_spec.proofs.Prelude.{ap, ap₂, sym, arith, list_any, range_with_len, length-range_with_len}
-use Rattle.rx_dense.specs.Layouts.{Layout, stride, table_of}
-use Rattle.rx_dense.specs.declared.special.Special.{Special}
-use Rattle.rx_order.specs.ByKind.{AreSkippable, leaving_of}
-use Rattle.rx_order.specs.RowOrder.{is_accel_kind, is_marked}
-use Rattle.rx_order.specs.SpecialIds.{special_ids}
-use Rattle.rx_order.proofs.Accelerating.{IsAccelerating, accelerating, accelerating_ends}
+use Rattle.rx_order.proofs.Prelude.{AreSkippable, Layout, Special, is_accel_kind, is_marked, leaving_of, special_ids}
+use Rattle.rx_order.proofs.Prelude.{stride, table_of}
+use Rattle.rx_order.proofs.Accelerating.{IsAccelerating, accelerating}
+use Rattle.rx_order.proofs.MarkedRows.{match_starts}
+use Rattle.rx_order.proofs.Ordered.{arranging_ends}
 use Rattle.rx_order.proofs.Unskipped.{stays}
 use Rattle.rx_order.proofs.accelerate_rows.accelerate.Goals.{After-arrange, In_ok-order}
 use Rattle.rx_order.proofs.accelerate_rows.accelerate.Goals as goal
@@ -42,21 +41,24 @@ moving c m set =
     let kinds = c.in_ok-kinds.ensures in
     record {
       in_order = c.requires.in_order;
-      plain = c.requires.plain;
-      are_rows = kinds.are_rows;
-      are_starts = kinds.are_starts;
-      kinds_are = kinds.kinds;
-      by_kind = rw c.deref-2.ensures.value at c.in_ok-order.ensures.by_kind;
       few = c.in_ok-move_patterns.ensures.fits;
-      next_is = c.in_ok-move_patterns.ensures.ok;
-      reordered = rw c.deref-4.ensures.value at c.arrange.ensures;
-      set = set;
+      arranging = record {
+        are_rows = kinds.are_rows;
+        are_starts = kinds.are_starts;
+        kinds_are = kinds.kinds;
+        by_kind = rw c.deref-2.ensures.value at c.in_ok-order.ensures.by_kind;
+        plain = match_starts c.args.dfa.now c.requires.in_order.sound;
+        next_is = c.in_ok-move_patterns.ensures.ok;
+        reordered = rw c.deref-4.ensures.value at c.arrange.ensures;
+        set = rw set refl;
+      };
+      accels = ap (λ (k : Layout). k.accels) set;
     }
 
 pub special-requires-2-clause-ids : goal.special-requires-2-clause-ids
 special-requires-2-clause-ids c =
     rw (c.stride2.ensures.value ∙ ap (λ (k : Layout). k.stride2) c.set_accels.ensures)
-    (accelerating_ends (moving (goal.at.special-requires-2-clause-ids c).After-arrange _ refl))
+    (arranging_ends (moving (goal.at.special-requires-2-clause-ids c).After-arrange _ refl).arranging)
 
 pub returns-clause-ok : goal.returns-clause-ok
 returns-clause-ok c =

@@ -1,10 +1,7 @@
 use Rattle.rx_spec.proofs.Prelude.{◌≡◌, ◌+◌, ◌-◌, ◌≤◌, ◌∙◌, ◌++◌, [], ◌∷◌, ℕ, List, length, map, slice_index, ap, ap₂}
 use Rattle.rx_spec.proofs.Prelude.{sym, arith, range_with_len, get_or_default, length-map-range_with_len}
 use Rattle.rx_spec.proofs.Prelude.{map-range_with_len_more, row_of}
-use Rattle.rx_search.specs.Starts.{IsId}
-use Rattle.rx_dense.specs.Layouts.{ids_of, table_of}
-use Rattle.rx_order.specs.ByKind.{leaving_of}
-use Rattle.rx_order.specs.RowOrder.{are_needles}
+use Rattle.rx_order.proofs.Prelude.{IsId, are_needles, ids_of, leaving_of, table_of}
 use Rattle.rx_order.proofs.Sorted.{ends_rise, id_of_number, number_few, numbered, place_below, row_in, rows_count}
 use Rattle.rx_order.proofs.Sorted.{skippable, some_of}
 use Rattle.rx_order.proofs.accelerate_rows.accels.Goals.{After-must-id}

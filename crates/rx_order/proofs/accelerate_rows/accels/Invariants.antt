@@ -1,6 +1,5 @@
 use Rattle.rx_spec.proofs.Prelude.{◌≡◌, ◌-◌, map, slice_index, range_with_len}
-use Rattle.rx_dense.specs.Layouts.{table_of}
-use Rattle.rx_order.specs.ByKind.{leaving_of}
+use Rattle.rx_order.proofs.Prelude.{leaving_of, table_of}
 use Rattle.rx_order.proofs.accelerate_rows.accels.Given as goal
 
 abbrev pub invariant-loop-place : goal.invariant-loop-place

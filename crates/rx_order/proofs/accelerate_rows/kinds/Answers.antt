@@ -2,10 +2,8 @@ use Rattle.rx_spec.proofs.Prelude.{◌≡◌, ◌==◌, ◌*◌, ◌<◌, ◌∙
 use Rattle.rx_spec.proofs.Prelude.{slice_index, ap, ap₂, sym, subst, ⊎_elim, arith, list_any, cases_eq}
 use Rattle.rx_spec.proofs.Prelude.{get_or_append_left, get_or_default, get_or_push, length_push, All-push, row_of}
 use Rattle.rx_spec.proofs.Prelude.{is_match}
-use Rattle.rx_search.specs.Starts.{IsId}
-use Rattle.rx_dense.specs.Layouts.{Layout, ids_of, row_count, stride, table_of}
-use Rattle.rx_order.specs.ByKind.{leaving_of}
-use Rattle.rx_order.specs.RowOrder.{are_needles, is_start_row, kind_by}
+use Rattle.rx_order.proofs.Prelude.{IsId, Layout, are_needles, ids_of, is_start_row, kind_by, leaving_of, row_count}
+use Rattle.rx_order.proofs.Prelude.{stride, table_of}
 use Rattle.rx_order.proofs.Sorted.{id_of_number}
 use Rattle.rx_order.proofs.accelerate_rows.kinds.Goals.{After-must-id}
 use Rattle.rx_order.proofs.accelerate_rows.kinds.Goals as goal

@@ -1,7 +1,5 @@
 use Rattle.rx_spec.proofs.Prelude.{◌≡◌, ℕ, ◌<◌, All, length, slice_index, is_match}
-use Rattle.rx_dense.specs.Layouts.{table_of}
-use Rattle.rx_order.specs.ByKind.{leaving_of}
-use Rattle.rx_order.specs.RowOrder.{are_needles, is_start_row, kind_by}
+use Rattle.rx_order.proofs.Prelude.{are_needles, is_start_row, kind_by, leaving_of, table_of}
 use Rattle.rx_order.proofs.accelerate_rows.kinds.Given as goal
 
 abbrev pub invariant-loop-row : goal.invariant-loop-row

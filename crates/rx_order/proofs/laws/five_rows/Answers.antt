@@ -1,8 +1,9 @@
-use Rattle.rx_spec.proofs.Prelude.{◌≡◌, ℕ, zero, suc, ◌+◌, ◌<◌, ◌≤◌, ◌∙◌, Bool, true, false, if◌then◌else◌, not, nat_le}
-use Rattle.rx_spec.proofs.Prelude.{nat_lt, slice_index, refl, subst, arith, lit<, list_all, range_with_len}
-use Rattle.rx_spec.proofs.Prelude.{get_or-range_with_len}
+use Rattle.rx_spec.proofs.Prelude.{common_steps, cases_eq, cases_lt, ◌≡◌, ℕ, ◌+◌, ◌<◌, ◌≤◌, ◌∙◌, Bool, true}
+use Rattle.rx_spec.proofs.Prelude.{if◌then◌else◌, not, nat_le, nat_lt, slice_index, refl, subst, arith, lit<, list_all}
+use Rattle.rx_spec.proofs.Prelude.{range_with_len, get_or-range_with_len}
+use Rattle.std.proofs.lemmas.Bool.{cases_Bool}
+use Rattle.rx_order.proofs.Prelude.{five_ends, five_kinds}
 use Rattle.std.proofs.lemmas.List.Sums.{AllPass-from_list_all}
-use Rattle.rx_order.specs.Examples.{five_ends, five_kinds}
 use Rattle.rx_order.proofs.laws.five_rows.Goals as goal
 
 -- whether a row lies before the end of a kind exactly if its kind is no higher
@@ -13,18 +14,10 @@ agree row kind =
 
 each : (row : ℕ) → row < 5 → list_all (agree row) (range_with_len 0 8) ≡ true
 unfolding agree
-each zero h = refl
-each (suc zero) h = refl
-each (suc (suc zero)) h = refl
-each (suc (suc (suc zero))) h = refl
-each (suc (suc (suc (suc zero)))) h = refl
-each (suc (suc (suc (suc (suc row))))) h = absurd (omega (arith, h))
+each row h = grind (arith, common_steps, cases_eq, cases_lt)
 
 same : (a b : Bool) → (if a then b else not b) ≡ true → a ≡ b
-same true true e = refl
-same true false e = absurd (cc)
-same false true e = absurd (cc)
-same false false e = refl
+same a b e = grind (arith, common_steps, cases_Bool)
 
 pub returns : goal.returns
 unfolding agree
@@ -43,20 +36,7 @@ returns c = record {
 }
   where
     others : (row : ℕ) → 1 < row → row < 5 → 1 < slice_index five_kinds row
-    others zero h low = absurd (omega (arith, h))
-    others (suc zero) h low = absurd (omega (arith, h))
-    others (suc (suc zero)) h low = lit< tt
-    others (suc (suc (suc zero))) h low = lit< tt
-    others (suc (suc (suc (suc zero)))) h low = lit< tt
-    others (suc (suc (suc (suc (suc row))))) h low = absurd (omega (arith, low))
+    others row h low = grind (arith, common_steps, cases_eq, cases_lt)
 
     within : (kind : ℕ) → kind < 8 → slice_index five_ends kind ≤ 5
-    within zero h = omega arith
-    within (suc zero) h = omega arith
-    within (suc (suc zero)) h = omega arith
-    within (suc (suc (suc zero))) h = omega arith
-    within (suc (suc (suc (suc zero)))) h = omega arith
-    within (suc (suc (suc (suc (suc zero))))) h = omega arith
-    within (suc (suc (suc (suc (suc (suc zero)))))) h = omega arith
-    within (suc (suc (suc (suc (suc (suc (suc zero))))))) h = omega arith
-    within (suc (suc (suc (suc (suc (suc (suc (suc kind)))))))) h = absurd (omega (arith, h))
+    within kind h = grind (arith, common_steps, cases_eq, cases_lt)

@@ -1,6 +1,5 @@
 use Rattle.rx_spec.proofs.Prelude.{common_steps, ◌∙◌, ◌++◌, [], ◌∷◌, List, ap, sym, arith, map-range_with_len_more}
-use Rattle.rx_order.specs.Ranks.{ranked_row}
-use Rattle.rx_order.specs.declared.order.Ranked.{Ranked}
+use Rattle.rx_order.proofs.Prelude.{Ranked, ranked_row}
 use Rattle.rx_order.proofs.order.unsorted.Goals as goal
 
 pub loop-number-preserved : goal.loop-number-preserved

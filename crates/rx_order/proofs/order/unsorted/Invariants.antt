@@ -1,5 +1,5 @@
 use Rattle.rx_spec.proofs.Prelude.{◌≡◌, map, range_with_len}
-use Rattle.rx_order.specs.Ranks.{ranked_row}
+use Rattle.rx_order.proofs.Prelude.{ranked_row}
 use Rattle.rx_order.proofs.order.unsorted.Given as goal
 
 abbrev pub invariant-loop-number : goal.invariant-loop-number

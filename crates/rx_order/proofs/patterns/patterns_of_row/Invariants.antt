@@ -1,6 +1,5 @@
 use Rattle.rx_spec.proofs.Prelude.{◌≡◌, take, row_of}
-use Rattle.rx_search.specs.Labels.{patterns_of}
-use Rattle.rx_dense.specs.Layouts.{ids_of, table_of}
+use Rattle.rx_order.proofs.Prelude.{ids_of, patterns_of, table_of}
 use Rattle.rx_order.proofs.patterns.patterns_of_row.Given as goal
 
 abbrev pub invariant-loop-index : goal.invariant-loop-index

@@ -1,8 +1,6 @@
 use Rattle.rx_spec.proofs.Prelude.{rules, ◌≡◌, ◌-◌, ◌*◌, ◌∙◌, slice_index, ap, arith, common_steps, pow_pos, row_of}
 use Rattle.rx_spec.proofs.Prelude.{is_match}
-use Rattle.rx_search.specs.Labels.{patterns_of}
-use Rattle.rx_search.specs.Starts.{IsId}
-use Rattle.rx_dense.specs.Layouts.{ids_of, stride, table_of}
+use Rattle.rx_order.proofs.Prelude.{IsId, ids_of, patterns_of, stride, table_of}
 use Rattle.rx_order.proofs.InsertedLists.{one_inserted}
 use Rattle.rx_order.proofs.Sorted.{id_of_number, row_numbered}
 use Rattle.rx_order.proofs.patterns.patterns_of_rows.Goals.{After-must-id}

@@ -1,6 +1,5 @@
 use Rattle.rx_spec.proofs.Prelude.{slice_index}
-use Rattle.rx_search.specs.Labels.{patterns_of}
-use Rattle.rx_dense.specs.Layouts.{stride, table_of}
+use Rattle.rx_order.proofs.Prelude.{patterns_of, stride, table_of}
 use Rattle.rx_order.proofs.InsertedLists.{AreInserted}
 use Rattle.rx_order.proofs.patterns.patterns_of_rows.Given as goal
 

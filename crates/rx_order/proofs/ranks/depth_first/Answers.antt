@@ -1,8 +1,6 @@
 use Rattle.rx_spec.proofs.Prelude.{rules, ℕ, ◌+◌, ◌-◌, ◌*◌, ◌/◌, ◌%◌, ◌^◌, ◌<◌, ◌∙◌, Bool, true, Vec, Global, length}
 use Rattle.rx_spec.proofs.Prelude.{slice_index, ap, sym, arith, common_steps, All-push, length-range_with_len}
-use Rattle.std.proofs.lemmas.List.{length-set}
-use Rattle.rx_dense.specs.Layouts.{row_count}
-use Rattle.rx_dense.proofs.Rows.{row-below}
+use Rattle.rx_order.proofs.Prelude.{length-set, row-below, row_count}
 use Rattle.rx_order.proofs.DepthFirst.{IsLeft, found_row, last_left, numbered, ranks_kept, step}
 use Rattle.rx_order.proofs.ranks.depth_first.Goals.{then-not-index+in_ok-push, else-not-index, then-not-index-2}
 use Rattle.rx_order.proofs.ranks.depth_first.Goals.{else-not-index-2+then-count-eq0+in-Some-pop}

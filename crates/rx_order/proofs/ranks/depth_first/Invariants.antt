@@ -1,5 +1,5 @@
 use Rattle.rx_spec.proofs.Prelude.{◌≡◌, ℕ, ◌<◌, length, slice_index}
-use Rattle.rx_dense.specs.Layouts.{row_count}
+use Rattle.rx_order.proofs.Prelude.{row_count}
 use Rattle.rx_order.proofs.DepthFirst.{AreLeft, IsLeft}
 use Rattle.rx_order.proofs.ranks.depth_first.Given as goal
 

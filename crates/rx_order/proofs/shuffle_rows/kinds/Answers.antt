@@ -1,9 +1,7 @@
 use Rattle.rx_spec.proofs.Prelude.{◌++◌, [], ◌∷◌, ◌≡◌, ◌&&◌, ◌==◌, ◌*◌, ◌<◌, ◌∙◌, ℕ, Bool, false, length, nat_lt}
 use Rattle.rx_spec.proofs.Prelude.{slice_index, ap₂, sym, subst, ⊎_elim, arith, list_any, cases_eq, get_or_append_left}
 use Rattle.rx_spec.proofs.Prelude.{get_or_default, get_or_push, length_push, All-push}
-use Rattle.rx_dense.specs.Layouts.{Layout, row_count, stride}
-use Rattle.rx_order.specs.Ordering.{is_match_row}
-use Rattle.rx_order.specs.RowOrder.{is_start_row, kind_by}
+use Rattle.rx_order.proofs.Prelude.{Layout, is_match_row, is_start_row, kind_by, row_count, stride}
 use Rattle.rx_order.proofs.shuffle_rows.kinds.Goals as goal
 
 pub loop-row-preserved : goal.loop-row-preserved

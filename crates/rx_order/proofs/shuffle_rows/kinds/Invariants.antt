@@ -1,6 +1,5 @@
 use Rattle.rx_spec.proofs.Prelude.{◌≡◌, ℕ, ◌<◌, All, false, length, slice_index}
-use Rattle.rx_order.specs.Ordering.{is_match_row}
-use Rattle.rx_order.specs.RowOrder.{is_start_row, kind_by}
+use Rattle.rx_order.proofs.Prelude.{is_match_row, is_start_row, kind_by}
 use Rattle.rx_order.proofs.shuffle_rows.kinds.Given as goal
 
 abbrev pub invariant-loop-row : goal.invariant-loop-row

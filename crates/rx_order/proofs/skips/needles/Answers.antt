@@ -1,7 +1,6 @@
 use Rattle.rx_spec.proofs.Prelude.{common_steps, ◌≡◌, ◌≢◌, ◌==◌, [], ◌∷◌, ◌++◌, ◌+◌, if◌then◌else◌, length, ◌∙◌, ap}
 use Rattle.rx_spec.proofs.Prelude.{sym, subst, arith, eqb-true, eqb-false, row_of}
-use Rattle.rx_dense.specs.Layouts.{ids_of, table_of}
-use Rattle.rx_order.specs.RowOrder.{are_needles}
+use Rattle.rx_order.proofs.Prelude.{are_needles, ids_of, table_of}
 use Rattle.rx_order.proofs.Leaving.{AreFound, found_all, found_none, leaves_found, leaving_is, new_byte, none_found}
 use Rattle.rx_order.proofs.Leaving.{not_false, not_true, refused, same_id, stays_found}
 use Rattle.rx_order.proofs.skips.needles.Goals.{then-ne+else-not-add, else-ne}

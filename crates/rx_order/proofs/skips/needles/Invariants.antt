@@ -1,5 +1,5 @@
 use Rattle.rx_spec.proofs.Prelude.{row_of}
-use Rattle.rx_dense.specs.Layouts.{ids_of, table_of}
+use Rattle.rx_order.proofs.Prelude.{ids_of, table_of}
 use Rattle.rx_order.proofs.Leaving.{AreFound}
 use Rattle.rx_order.proofs.skips.needles.Given as goal
 

@@ -1,9 +1,11 @@
+use Rattle.std.proofs.Common.{arith}
+use Rattle.std.proofs.lemmas.Grind.{common_steps}
 use Rattle.rx_spec.proofs.Prelude.{ℕ, flat_map, id_count, row_at, closure}
 use Rattle.rx_expr.specs.Nfa.{meaning}
 use Rattle.rx_powerset.specs.Closures.{passing_of}
 use Rattle.rx_powerset.proofs.Closures.{nfa_graph, own_either}
-use Rattle.rx_powerset.proofs.StateBounds.{few_more, few_firsts}
-use Rattle.rx_powerset.proofs.StackSearch.{popped, passed, met, kept, passed_falls, met_falls, stopped}
+use Rattle.rx_powerset.proofs.StateBounds.{few_firsts}
+use Rattle.rx_powerset.proofs.StackSearch.{popped, passed, met, passed_falls, met_falls, stopped}
 use Rattle.rx_powerset.proofs.closure.closed.Goals as goal
 
 -- ---- a row that is new
@@ -24,10 +26,7 @@ search-preserved-in-Continue-branch-3 c =
     let turned =
     met graph c.search.seen c.insert.new.self before.search first noted.added c.if-branch.true noted.updates in
     let own = own_either (passing_of c.args.passing.now) c.in-Some.id row in
-    record {
-      search = kept graph turned visited.found visited.waiting;
-      few = few_more id_count _ visited.bound own visited.found before.few;
-    }
+    grind (arith, common_steps)
 
 -- ---- a row that was seen
 

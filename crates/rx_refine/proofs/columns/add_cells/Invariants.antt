@@ -1,5 +1,4 @@
-use Rattle.std.proofs.Common.{◌≡◌, ℕ, ◌+◌, ◌*◌, ◌<◌, ◌≤◌, [], ◌++◌, slice_index_or}
-use Rattle.std.specs.List.{slice_range}
+use Rattle.rx_refine.proofs.Prelude.{[], slice_index_or, slice_range, ℕ, ◌*◌, ◌++◌, ◌+◌, ◌<◌, ◌≡◌, ◌≤◌}
 use Rattle.rx_refine.proofs.columns.add_cells.Given as goal
 
 abbrev pub invariant-loop-unit : goal.invariant-loop-unit

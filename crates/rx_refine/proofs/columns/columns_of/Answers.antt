@@ -1,6 +1,5 @@
-use Rattle.std.proofs.lemmas.Grind.{common_steps}
-use Rattle.std.proofs.Common.{◌≡◌, ◌+◌, ◌*◌, ◌≤◌, length, sym, ◌∙◌, arith, mul-le-mul_right}
-use Rattle.std.proofs.lemmas.List.{with_items_is}
+use Rattle.rx_refine.proofs.Prelude.{arith, common_steps, length, mul-le-mul_right, sym, with_items_is, ◌*◌, ◌+◌, ◌∙◌}
+use Rattle.rx_refine.proofs.Prelude.{◌≡◌, ◌≤◌}
 use Rattle.rx_refine.proofs.TableColumns.{AreColumns-grown}
 use Rattle.rx_refine.proofs.columns.columns_of.Goals as goal
 

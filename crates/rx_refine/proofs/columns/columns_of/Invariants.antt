@@ -1,5 +1,4 @@
-use Rattle.std.proofs.Common.{◌-◌, ◌≤◌}
-use Rattle.rx_refine.specs.Layouts.{AreColumns}
+use Rattle.rx_refine.proofs.Prelude.{AreColumns, ◌-◌, ◌≤◌}
 use Rattle.rx_refine.proofs.columns.columns_of.Given as goal
 
 abbrev pub invariant-loop-first : goal.invariant-loop-first

@@ -1,4 +1,4 @@
-use Rattle.std.proofs.Common.{◌≡◌, ℕ, [], length, slice_index_or}
+use Rattle.rx_refine.proofs.Prelude.{[], length, slice_index_or, ℕ, ◌≡◌}
 use Rattle.rx_refine.proofs.columns.empty_columns.Given as goal
 
 abbrev pub invariant-loop-unit : goal.invariant-loop-unit

@@ -1,4 +1,4 @@
-use Rattle.std.proofs.Common.{rules}
+use Rattle.rx_refine.proofs.Prelude.{rules}
 use Rattle.rx_refine.proofs.Sources.{source_below}
 use Rattle.rx_refine.proofs.hopcroft.add_sources.Goals as goal
 

@@ -1,5 +1,4 @@
-use Rattle.std.proofs.Common.{◌≡◌, ◌+◌, ◌++◌, take}
-use Rattle.rx_refine.specs.Moves.{sources}
+use Rattle.rx_refine.proofs.Prelude.{sources, take, ◌++◌, ◌+◌, ◌≡◌}
 use Rattle.rx_refine.proofs.hopcroft.add_sources.Given as goal
 
 abbrev pub invariant-loop-i : goal.invariant-loop-i

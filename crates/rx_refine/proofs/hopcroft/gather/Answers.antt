@@ -1,6 +1,4 @@
-use Rattle.std.proofs.lemmas.Grind.{common_steps}
-use Rattle.std.proofs.Common.{arith}
-use Rattle.std.proofs.lemmas.List.Sums.{sum_by_more_le}
+use Rattle.rx_refine.proofs.Prelude.{arith, common_steps, sum_by_more_le}
 use Rattle.rx_refine.proofs.hopcroft.gather.Goals as goal
 
 pub add_sources-requires-clause-room : goal.add_sources-requires-clause-room

@@ -1,6 +1,4 @@
-use Rattle.std.proofs.Common.{◌≡◌, ◌≤◌, ◌+◌, length, take}
-use Rattle.std.specs.List.{flat_map, sum_by}
-use Rattle.rx_refine.specs.Moves.{sources}
+use Rattle.rx_refine.proofs.Prelude.{flat_map, length, sources, sum_by, take, ◌+◌, ◌≡◌, ◌≤◌}
 use Rattle.rx_refine.proofs.hopcroft.gather.Given as goal
 
 abbrev pub invariant-loop-member : goal.invariant-loop-member

@@ -1,8 +1,6 @@
-use Rattle.std.proofs.Common.{rules, ◌≡◌, ◌<◌, get_or, sym, subst, ◌∙◌, arith, le_trans, lt_of_le_of_lt}
-use Rattle.std.proofs.lemmas.Grind.{common_steps}
-use Rattle.std.specs.List.{All}
+use Rattle.rx_refine.proofs.Prelude.{All, AreAlikeByNumber, AreToldByNumber, AreWithoutGaps, arith, common_steps}
+use Rattle.rx_refine.proofs.Prelude.{get_or, le_trans, lt_of_le_of_lt, rules, subst, sym, ◌<◌, ◌∙◌, ◌≡◌}
 use Rattle.rx_refine.specs.Kept.{parts}
-use Rattle.rx_refine.specs.Moves.{AreAlikeByNumber, AreToldByNumber, AreWithoutGaps}
 use Rattle.rx_refine.proofs.Sweeps.{IsNext, taken_read, sweep_first, sweep_more, taking_small, turn_allowed, hits_small}
 use Rattle.rx_refine.proofs.Sweeps.{turn_more, turn_falls, all_allowed, all_more, all_next, blocks_below, result_alike}
 use Rattle.rx_refine.proofs.Sweeps.{result_told, result_numbers, result_no_gaps, discrete_alike}

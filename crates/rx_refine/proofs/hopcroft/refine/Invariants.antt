@@ -1,4 +1,4 @@
-use Rattle.std.proofs.Common.{◌-◌, get_or}
+use Rattle.rx_refine.proofs.Prelude.{get_or, ◌-◌}
 use Rattle.rx_refine.specs.Kept.{parts}
 use Rattle.rx_refine.proofs.Sweeps.{IsSweep}
 use Rattle.rx_refine.proofs.hopcroft.refine.Given as goal

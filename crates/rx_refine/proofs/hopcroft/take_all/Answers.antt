@@ -1,5 +1,4 @@
-use Rattle.std.proofs.Common.{◌∙◌, subst}
-use Rattle.rx_refine.specs.Keys.{AreNextKeys}
+use Rattle.rx_refine.proofs.Prelude.{AreNextKeys, subst, ◌∙◌}
 use Rattle.rx_refine.proofs.NextKeys.{next_keys_small}
 use Rattle.rx_refine.proofs.hopcroft.take_all.Goals as goal
 

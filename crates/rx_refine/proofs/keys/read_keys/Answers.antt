@@ -1,5 +1,4 @@
-use Rattle.std.proofs.lemmas.Grind.{common_steps}
-use Rattle.std.proofs.Common.{◌∙◌, arith, lt_of_le_of_lt}
+use Rattle.rx_refine.proofs.Prelude.{arith, common_steps, lt_of_le_of_lt, ◌∙◌}
 use Rattle.rx_refine.proofs.NextKeys.{reading_none, reading_room, reading_read, reading_passed}
 use Rattle.rx_refine.proofs.keys.read_keys.Goals.{then-taken-block, else-taken-block}
 use Rattle.rx_refine.proofs.keys.read_keys.Goals as goal

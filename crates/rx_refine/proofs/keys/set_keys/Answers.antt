@@ -1,5 +1,4 @@
-use Rattle.std.proofs.Common.{rules, arith}
-use Rattle.std.proofs.lemmas.Grind.{common_steps}
+use Rattle.rx_refine.proofs.Prelude.{arith, common_steps, rules}
 use Rattle.rx_refine.proofs.Sources.{source_below}
 use Rattle.rx_refine.proofs.NextKeys.{AreKeyed-all}
 use Rattle.rx_refine.proofs.keys.set_keys.Goals as goal

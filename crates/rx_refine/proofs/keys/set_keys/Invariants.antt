@@ -1,5 +1,4 @@
-use Rattle.std.proofs.Common.{◌≡◌, ◌+◌}
-use Rattle.rx_refine.specs.Moves.{sources}
+use Rattle.rx_refine.proofs.Prelude.{sources, ◌+◌, ◌≡◌}
 use Rattle.rx_refine.proofs.NextKeys.{AreKeyed}
 use Rattle.rx_refine.proofs.keys.set_keys.Given as goal
 

@@ -1,7 +1,4 @@
-use Rattle.std.proofs.lemmas.Grind.{common_steps}
-use Rattle.std.proofs.Common.{◌*◌, ◌^◌, ◌≤◌, arith}
-use Rattle.std.proofs.lemmas.Int.Digits.{length-digits_of-le}
-use Rattle.rx_refine.specs.Moves.{binary_digits, read_limit}
+use Rattle.rx_refine.proofs.Prelude.{arith, binary_digits, common_steps, length-digits_of-le, read_limit, ◌*◌, ◌^◌, ◌≤◌}
 use Rattle.rx_refine.proofs.laws.room.Goals as goal
 
 -- 2 ^ 31 rows have 32 digits

@@ -1,5 +1,4 @@
-use Rattle.std.proofs.Common.{arith}
-use Rattle.std.proofs.lemmas.Grind.{common_steps}
+use Rattle.rx_refine.proofs.Prelude.{arith, common_steps}
 use Rattle.rx_refine.proofs.TableColumns.{column_small}
 use Rattle.rx_refine.proofs.lists.lists_of.Goals as goal
 

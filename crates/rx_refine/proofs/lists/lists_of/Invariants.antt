@@ -1,5 +1,4 @@
-use Rattle.std.proofs.Common.{◌++◌}
-use Rattle.rx_refine.specs.Layouts.{AreColumns}
+use Rattle.rx_refine.proofs.Prelude.{AreColumns, ◌++◌}
 use Rattle.rx_refine.proofs.lists.lists_of.Given as goal
 
 abbrev pub invariant-loop-column : goal.invariant-loop-column

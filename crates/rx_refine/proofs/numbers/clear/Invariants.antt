@@ -1,4 +1,4 @@
-use Rattle.std.proofs.Common.{◌≡◌, ℕ, ◌<◌, get_or}
+use Rattle.rx_refine.proofs.Prelude.{get_or, ℕ, ◌<◌, ◌≡◌}
 use Rattle.rx_refine.proofs.numbers.clear.Given as goal
 
 abbrev pub invariant-loop-number : goal.invariant-loop-number

@@ -1,4 +1,4 @@
-use Rattle.std.proofs.Common.{◌∙◌, sym, arith}
+use Rattle.rx_refine.proofs.Prelude.{arith, sym, ◌∙◌}
 use Rattle.rx_refine.proofs.LeadingKey.{first_vote, own_vote, other_vote, half_at_end}
 use Rattle.rx_refine.proofs.numbers.leading_key.Goals as goal
 use Rattle.rx_refine.proofs.numbers.leading_key.Goals.{then-votes-eq0, else-votes-eq0, then-key-leading}

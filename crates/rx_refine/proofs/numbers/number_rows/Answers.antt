@@ -1,4 +1,4 @@
-use Rattle.std.proofs.Common.{◌≡◌, ◌<◌, length, get_or, arith, get_or-set_same}
+use Rattle.rx_refine.proofs.Prelude.{arith, get_or, get_or-set_same, length, ◌<◌, ◌≡◌}
 use Rattle.rx_refine.proofs.NumberedRows.{numbered_kept, numbered_again, numbered_new, NumbersRows_end}
 use Rattle.rx_refine.proofs.numbers.number_rows.Goals as goal
 use Rattle.rx_refine.proofs.numbers.number_rows.Goals.{then-key-kept, then-names-key, else-names-key, else-key-kept}

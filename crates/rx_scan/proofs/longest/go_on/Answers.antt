@@ -25,8 +25,8 @@ bytes-preserved g c =
     = record { leads = c.next_state-next.ensures.row; standing = standing } in
     record {
       is_id = is_id;
-      low = omega (arith, inv.low);
-      high = omega (arith, inv.high, c.bytes-test.true);
+      low = omega arith;
+      high = omega arith;
       walk = λ p begun.
           let w = inv.walk p begun in
           let step : Step t Direction.Forward (query_at text p) (row_of ids c.bytes.row) at (row_of ids next)

@@ -1,3 +1,5 @@
+use Rattle.std.proofs.Common.{arith}
+use Rattle.std.proofs.lemmas.Grind.{common_steps}
 use Rattle.rx_spec.proofs.Prelude.{sym, ◌∙◌, refl, row_of}
 use Rattle.rx_search.proofs.Cursors.{held_by, held_row}
 use Rattle.rx_search.proofs.Walks.{Turn, eoi_no_quit}
@@ -12,10 +14,7 @@ turn : (g : given.Over) (c : After-next_eoi_state-row g)
     (row_of (g.A.Automaton.ids c.args.table.now) c.next_eoi_state-row.result)
 turn g c =
     let held = held_by g.met.A.Automaton.sound g.met.A.Automaton.are_ids c.args.table.now c.requires.sound in
-    record {
-      leads = c.next_eoi_state-row.ensures.row;
-      standing = held_row held c.next_eoi_state-row.result c.next_eoi_state-row.ensures.is_id;
-    }
+    grind (arith, common_steps)
 
 pub returns-then-is_match_row : goal.returns-then-is_match_row
 returns-then-is_match_row g c text p more over w =

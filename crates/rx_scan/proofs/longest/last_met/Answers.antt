@@ -3,14 +3,14 @@ use Rattle.rx_spec.specs.declared.Direction.{Direction}
 use Rattle.rx_search.proofs.Cursors.{held_by, held_row}
 use Rattle.rx_search.proofs.Walks.{Step, bytes_of, quiet}
 use Rattle.rx_all.specs.Matches.{query_at}
-use Rattle.rx_scan.proofs.LastRows.{walk_begins, walk_starts, walk_keeps, place, quiet_on, met_on, ends_there}
-use Rattle.rx_scan.proofs.LastRows.{quits_there, met_skips, quiet_skips}
+use Rattle.rx_scan.proofs.LastRows.{walk_keeps, place, quiet_on, met_on, ends_there, quits_there, met_skips}
+use Rattle.rx_scan.proofs.LastRows.{quiet_skips}
 use Rattle.rx_scan.proofs.longest.last_met.Given as given
 use Rattle.rx_scan.proofs.longest.last_met.Goals.{After-next_state-row}
 use Rattle.rx_scan.proofs.longest.last_met.Goals as goal
 
 pub rows-init : goal.rows-init
-rows-init g c = grind (arith, common_steps, walk_starts, walk_begins)
+rows-init g c = grind (arith, common_steps)
 
 pub returns-then-ahead-text : goal.returns-then-ahead-text
 returns-then-ahead-text g c = grind (arith, common_steps)

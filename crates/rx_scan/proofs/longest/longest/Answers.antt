@@ -1,5 +1,5 @@
-use Rattle.rx_spec.proofs.Prelude.{common_steps, ◌≡◌, ◌<◌, ◌==◌, if◌then◌else◌, Some, None, sym, ◌∙◌, ap, subst, arith}
-use Rattle.rx_spec.proofs.Prelude.{length, eq-eqb, eqb-true, false_from_ne_true, row_of, HalfMatch}
+use Rattle.rx_spec.proofs.Prelude.{common_steps, ◌≡◌, ◌<◌, Some, sym, ◌∙◌, ap, subst, arith, length, eqb-true}
+use Rattle.rx_spec.proofs.Prelude.{false_from_ne_true, row_of, HalfMatch}
 use Rattle.rx_search.specs.Labels.{patterns_of}
 use Rattle.rx_all.specs.Matches.{told_at}
 use Rattle.rx_scan.specs.Walks.{IsLast, kept_met}
@@ -9,7 +9,7 @@ use Rattle.rx_scan.proofs.LongestMatches.{longest_lowest}
 use Rattle.rx_scan.proofs.longest.longest.Goals as goal
 
 pub returns-then-met-from-clause-value : goal.returns-then-met-from-clause-value
-returns-then-met-from-clause-value g c = grind (arith, common_steps, eq-eqb, told)
+returns-then-met-from-clause-value g c = grind (arith, common_steps)
 
 pub returns-else-met-from-clause-value : goal.returns-else-met-from-clause-value
 returns-else-met-from-clause-value g c =
@@ -18,12 +18,10 @@ returns-else-met-from-clause-value g c =
     let text = c.args.text.now in
     let met : MetRow = c.in-Ok-last_met.met in
     let some : kept_met c.args.from met ≡ Some met
-    = ap (λ v. if v then None else Some met) (false_from_ne_true (met.offset == c.args.from)
-    (λ e. c.if-met-from.false (eqb-true met.offset c.args.from e))) in
+    = grind (arith, common_steps, false_from_ne_true, eqb-true) in
     let last = subst (IsLast t ids c.args.from (length text) (told_at t text c.args.from)) some
     c.in-Ok-last_met.ensures in
     let ks = patterns_of t (row_of ids met.row) in
-    let from = last.met.from in
-    let above : c.args.from < met.offset = omega (arith, from, c.if-met-from.false) in
+    let above : c.args.from < met.offset = omega arith in
     let lowest = longest_lowest c.args.from met.offset ks c.lowest.result above c.lowest.ensures in
     ap (λ (m : HalfMatch). told (Some m)) c.new.ensures ∙ sym (last.best ∙ ap told lowest)

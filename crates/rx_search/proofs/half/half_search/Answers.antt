@@ -30,10 +30,7 @@ search_on-requires-clause-room g c =
     omega (arith, c.requires.room, begins.count)
 
 pub returns-clause-answer : goal.returns-clause-answer
-returns-clause-answer g c =
-    let begins = begins_at g (goal.at.returns-clause-answer g c).After-skip-from in
-    c.search_on.ensures.answer ∙ sym begins.walked
-    ∙ sym (begun c.requires.fresh (sym c.is_done.ensures ∙ c.if-is_done.false))
+returns-clause-answer g c = grind (arith, common_steps, begins_at, begun)
 
 pub returns-clause-within : goal.returns-clause-within
 returns-clause-within g c =

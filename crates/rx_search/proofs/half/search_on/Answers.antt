@@ -55,9 +55,7 @@ next_reached g c =
     c.next_match.new.cursor.is_id (rw c.in-Ok-Some.field-0-is at c.in-Ok-Some.ensures.stop)
 
 pub pattern-pattern-requires-clause-within : goal.pattern-pattern-requires-clause-within
-pattern-pattern-requires-clause-within g c =
-    let a = g.A.Automaton in
-    some_there a.table a.ids (next_reached g (goal.at.pattern-pattern-requires-clause-within g c).In-Ok-Some)
+pattern-pattern-requires-clause-within g c = grind (arith, common_steps, some_there, next_reached)
 
 pub returns-then-get_earliest-clause-answer : goal.returns-then-get_earliest-clause-answer
 returns-then-get_earliest-clause-answer g c =

@@ -47,9 +47,7 @@ module _ (g : given.Over) (c : After-advance g) where
   test_is test = known g.A.Automaton.table g.A.Automaton.ids test c.advance.new.self.row same_table
 
   hay_bytes : AreBytes (query_of c.args.input.now).haystack
-  hay_bytes =
-      bytes_of c.haystack-haystack.result.now (query_of c.args.input.now).haystack c.haystack-haystack.ensures
-      (λ k. omega (arith, c.type_inv.haystack k))
+  hay_bytes = grind (arith, common_steps, bytes_of)
 
 -- ---- the cursor has read the unit past the span
 

@@ -6,8 +6,7 @@ use Rattle.rx_sparse_build.proofs.builder.made_sparse.Goals as goal
 
 pub to_sparse-requires-clause-special : goal.to_sparse-requires-clause-special
 to_sparse-requires-clause-special c =
-    let shaped = subst IsShaped c.table.view_is c.table.invariant in
-    special_rows c.args.table shaped.rows c.requires.ordered
+    special_rows c.args.table (subst IsShaped c.table.view_is c.table.invariant).rows c.requires.ordered
 
 pub returns-clause-ok : goal.returns-clause-ok
 returns-clause-ok c = λ s nfa is.

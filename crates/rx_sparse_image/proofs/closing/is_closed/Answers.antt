@@ -1,5 +1,4 @@
-use Rattle.rx_spec.proofs.Prelude.{arith, ◌≡◌, ◌&&◌, ◌==◌, Bool, true, false, length, refl, sym, ◌∙◌, common_steps}
-use Rattle.rx_spec.proofs.Prelude.{eq-eqb}
+use Rattle.rx_spec.proofs.Prelude.{arith, ◌≡◌, ◌&&◌, ◌==◌, true, false, length, refl, sym, ◌∙◌, common_steps, eq-eqb}
 use Rattle.rx_sparse.specs.Layouts.{Layout}
 use Rattle.rx_sparse.proofs.RowPlaces.{length-rows_in}
 use Rattle.rx_sparse_image.specs.Closing.{are_special_rows, rows_stand}
@@ -7,27 +6,18 @@ use Rattle.rx_sparse_image.specs.Reading.{image_layout}
 use Rattle.rx_sparse_image.proofs.closing.is_closed.Goals as goal
 use Rattle.rx_sparse_image.proofs.closing.is_closed.Goals.{then-rows_stand, else-rows_stand}
 
--- the second of two tests is asked where the first holds
-both_asked : {both first second : Bool} → first ≡ true → both ≡ second → both ≡ (first && second)
-both_asked first both = rw (first, both) refl
-
-first_asked : {both first : Bool} (second : Bool) → first ≡ false → both ≡ first → both ≡ (first && second)
-first_asked second first both = rw (both, first) refl
-
 pub returns-then-are_special_rows : goal.returns-then-are_special_rows
 returns-then-are_special_rows c =
     let image = c.args.image.now in
     let l : Layout = image_layout image in
-    let marks = c.requires.marks in
     let count : (length l.rows == image.parts.state_len) ≡ true =
     eq-eqb _ _ (length-rows_in image.parts.order image.parts.state_len image.rows.now) in
-    let stand = c.rows_stand.ensures marks in
+    let stand = c.rows_stand.ensures c.requires.marks in
     let both : c.if-rows_stand.value ≡ (rows_stand l && are_special_rows l l.special) =
     elim c.if-rows_stand.branch [
       | then-rows_stand w ↦
-          both_asked (sym stand ∙ w.if-rows_stand.true) (w.value-is ∙ w.are_special_rows.ensures l marks)
-      | else-rows_stand w ↦
-          first_asked (are_special_rows l l.special) (sym stand ∙ w.if-rows_stand.false) (w.value-is ∙ stand)
+          (rw ((sym stand ∙ w.if-rows_stand.true), (w.value-is ∙ w.are_special_rows.ensures l c.requires.marks)) refl)
+      | else-rows_stand w ↦ (rw ((w.value-is ∙ stand), (sym stand ∙ w.if-rows_stand.false)) refl)
     ] in
     grind (arith, common_steps)
 
@@ -35,15 +25,13 @@ pub returns-else-are_special_rows : goal.returns-else-are_special_rows
 returns-else-are_special_rows c =
     let image = c.args.image.now in
     let l : Layout = image_layout image in
-    let marks = c.requires.marks in
     let count : (length l.rows == image.parts.state_len) ≡ true =
     eq-eqb _ _ (length-rows_in image.parts.order image.parts.state_len image.rows.now) in
-    let stand = c.rows_stand.ensures marks in
+    let stand = c.rows_stand.ensures c.requires.marks in
     let both : c.if-rows_stand.value ≡ (rows_stand l && are_special_rows l l.special) =
     elim c.if-rows_stand.branch [
       | then-rows_stand w ↦
-          both_asked (sym stand ∙ w.if-rows_stand.true) (w.value-is ∙ w.are_special_rows.ensures l marks)
-      | else-rows_stand w ↦
-          first_asked (are_special_rows l l.special) (sym stand ∙ w.if-rows_stand.false) (w.value-is ∙ stand)
+          (rw ((sym stand ∙ w.if-rows_stand.true), (w.value-is ∙ w.are_special_rows.ensures l c.requires.marks)) refl)
+      | else-rows_stand w ↦ (rw ((w.value-is ∙ stand), (sym stand ∙ w.if-rows_stand.false)) refl)
     ] in
     grind (arith, common_steps)

@@ -27,9 +27,8 @@ returns-then-eq-clause-place g c = grind (arith, common_steps, length-rows)
 
 pub returns-then-eq-clause-put : goal.returns-then-eq-clause-put
 returns-then-eq-clause-put g c =
-    let dfa = c.args.dfa.now in
     let other = g.E.Endian.order in
-    let same : dfa.order ≡ other =
+    let same : c.args.dfa.now.order ≡ other =
     sym c.order.ensures
     ∙ one_order c.order.result c.args.order (sym c.eq.ensures ∙ c.if-eq.true)
     ∙ c.requires.order in

@@ -1,6 +1,6 @@
-use Rattle.rx_spec.proofs.Prelude.{common_steps, ◌<◌, length, arith}
+use Rattle.rx_spec.proofs.Prelude.{common_steps, ◌<◌, length, arith, ap}
 use Rattle.rx_sparse.proofs.RowTexts.{whole_ends, whole_ids}
-use Rattle.rx_sparse_image.proofs.Pieces.{after_low, ends_there, head_there, ids_there, left_there, needles_low}
+use Rattle.rx_sparse_image.proofs.Pieces.{ends_there, head_there, ids_there, left_there, needles_low, after_is}
 use Rattle.rx_sparse_image.proofs.Pieces.{patterns_there, size_low, size_within}
 use Rattle.rx_sparse_image.proofs.row_parts.split_parts.Goals as goal
 
@@ -28,7 +28,7 @@ bounds-rest-0 c =
       c.split_at.ensures.front,
       c.split_at.ensures.back,
     )
-    (after_low c.requires) in
+    (omega (arith, ap length (after_is c.requires))) in
     omega arith
 
 pub split_at-requires-5 : goal.split_at-requires-5

@@ -7,8 +7,7 @@ use Rattle.rx_sparse_image.proofs.turned.put_half.Goals as goal
 
 pub returns-clause-put : goal.returns-clause-put
 returns-clause-put g c =
-    let order = g.E.Endian.order in
     put_up_to refl
     (stands_more
-    (put_behind c.args.dst.now c.write_u16.new.dst (field order w16 c.args.number) c.args.at _
-    (omega arith) (length-field_16 order c.args.number) c.write_u16.ensures))
+    (put_behind c.args.dst.now c.write_u16.new.dst (field g.E.Endian.order w16 c.args.number) c.args.at _
+    (omega arith) (length-field_16 g.E.Endian.order c.args.number) c.write_u16.ensures))

@@ -6,52 +6,42 @@ use Rattle.rx_sparse_image.proofs.Pieces.{ids_turned, patterns_turned, patterns_
 use Rattle.rx_sparse_image.proofs.turned.put_row.Goals as goal
 
 pub put_plain-end-requires : goal.put_plain-end-requires
-put_plain-end-requires g c =
-    let sizes = row_sizes c.args.order (row_in c.args.order c.args.bytes.now) in
-    grind (arith, common_steps)
+put_plain-end-requires g c = grind (arith, common_steps, row_sizes c.args.order (row_in c.args.order c.args.bytes.now))
 
 pub put_words-end-requires-clause-whole : goal.put_words-end-requires-clause-whole
 put_words-end-requires-clause-whole g c = grind (arith, common_steps, words_whole)
 
 pub put_words-end-requires-clause-fits : goal.put_words-end-requires-clause-fits
 put_words-end-requires-clause-fits g c =
-    let sizes = row_sizes c.args.order (row_in c.args.order c.args.bytes.now) in
-    grind (arith, common_steps)
+    grind (arith, common_steps, row_sizes c.args.order (row_in c.args.order c.args.bytes.now))
 
 pub put_words-end-requires-2-clause-whole : goal.put_words-end-requires-2-clause-whole
 put_words-end-requires-2-clause-whole g c = grind (arith, common_steps, patterns_whole)
 
 pub put_words-end-requires-2-clause-fits : goal.put_words-end-requires-2-clause-fits
 put_words-end-requires-2-clause-fits g c =
-    let sizes = row_sizes c.args.order (row_in c.args.order c.args.bytes.now) in
-    grind (arith, common_steps)
+    grind (arith, common_steps, row_sizes c.args.order (row_in c.args.order c.args.bytes.now))
 
 pub put_plain-requires : goal.put_plain-requires
-put_plain-requires g c =
-    let sizes = row_sizes c.args.order (row_in c.args.order c.args.bytes.now) in
-    grind (arith, common_steps)
+put_plain-requires g c = grind (arith, common_steps, row_sizes c.args.order (row_in c.args.order c.args.bytes.now))
 
 pub returns-clause-place : goal.returns-clause-place
-returns-clause-place g c =
-    let sizes = row_sizes c.args.order (row_in c.args.order c.args.bytes.now) in
-    grind (arith, common_steps)
+returns-clause-place g c = grind (arith, common_steps, row_sizes c.args.order (row_in c.args.order c.args.bytes.now))
 
 pub returns-clause-put : goal.returns-clause-put
 returns-clause-put g c =
     let order = c.args.order in
     let other = g.E.Endian.order in
-    let row = row_in order c.args.bytes.now in
-    let fits = c.requires.whole.fits in
     and_then (put_same (ap (field other w16) c.split_parts.ensures.head) c.put_half-end.ensures.put)
     (and_then (put_same c.split_parts.ensures.ends c.put_plain-end.ensures.put)
     (and_then
     (put_same
     (ap (λ t. words_text other (words_in order (length t / 4) t)) c.split_parts.ensures.next_ids
-    ∙ ids_turned order other row fits)
+    ∙ ids_turned order other (row_in order c.args.bytes.now) c.requires.whole.fits)
     c.put_words-end.ensures.put)
     (and_then
     (put_same
     (ap (λ t. words_text other (words_in order (length t / 4) t)) c.split_parts.ensures.patterns
-    ∙ patterns_turned order other row fits)
+    ∙ patterns_turned order other (row_in order c.args.bytes.now) c.requires.whole.fits)
     c.put_words-end-2.ensures.put)
     (put_same c.split_parts.ensures.needles c.put_plain.ensures.put))))

@@ -1,4 +1,4 @@
-use Rattle.rx_spec.proofs.Prelude.{common_steps, ℕ, ◌<◌, drop, ap, ◌∙◌, arith}
+use Rattle.rx_spec.proofs.Prelude.{common_steps, ℕ, drop, ap, ◌∙◌, arith}
 use Rattle.rx_dense_image.proofs.Behind.{and_then, put_same}
 use Rattle.rx_sparse.specs.Rows.{row_in, row_len, row_text, rows_len}
 use Rattle.rx_sparse.proofs.RowPlaces.{length-rows_in}
@@ -21,18 +21,17 @@ loop-preserved g c =
     let bytes = c.args.bytes.now in
     let i : ℕ = c.loop.counter in
     let are = c.requires.rows in
-    let low : i < c.args.count = omega arith in
     let here = c.loop.invariant.rest in
     let same = ap (λ t. row_len (row_in order t)) here in
     record {
       len = omega arith;
-      place = omega (arith, next_len order c.args.count bytes are i low c.args.at);
+      place = omega (arith, next_len order c.args.count bytes are i (omega arith) c.args.at);
       rest =
           c.put_row.ensures.rest
           ∙ ap (λ t. drop (row_len (row_in order t)) t) here
-          ∙ next_there order c.args.count bytes are i low;
+          ∙ next_there order c.args.count bytes are i (omega arith);
       put =
-          put_same (rows_more order c.args.count bytes are i low g.E.Endian.order)
+          put_same (rows_more order c.args.count bytes are i (omega arith) g.E.Endian.order)
           (and_then c.loop.invariant.put
           (put_same (ap (λ t. row_text g.E.Endian.order (row_in order t)) here) c.put_row.ensures.put));
     }

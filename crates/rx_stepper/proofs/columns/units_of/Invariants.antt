@@ -1,6 +1,5 @@
 use Rattle.rx_spec.proofs.Prelude.{◌≡◌, ◌++◌, map}
-use Rattle.rx_base.specs.Unit.{unit_number}
-use Rattle.rx_stepper.specs.Units.{units_of}
+use Rattle.rx_stepper.proofs.Prelude.{unit_number, units_of}
 use Rattle.rx_stepper.proofs.columns.units_of.Given as goal
 
 -- the units so far, and those that are left

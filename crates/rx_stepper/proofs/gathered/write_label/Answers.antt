@@ -1,10 +1,6 @@
-use Rattle.rx_spec.proofs.Prelude.{common_steps, ◌≡◌, ℕ, ◌++◌, List, [], map, Option, None, Some, ap, sym, ◌∙◌, arith}
-use Rattle.rx_spec.proofs.Prelude.{Bor, IfSome, option_map_or, Row}
-use Rattle.rx_expr.specs.Nfa.{meaning}
-use Rattle.rx_stepper.specs.Gathering.{matches_in}
-use Rattle.rx_stepper.specs.Leads.{without}
-use Rattle.rx_stepper.specs.Steps.{AreEmpty, patterns_of}
-use Rattle.rx_stepper.specs.declared.steps.Steps.{Steps}
+use Rattle.rx_spec.proofs.Prelude.{common_steps, ◌≡◌, ℕ, ◌++◌, List, [], map, Option, sym, ◌∙◌, arith, Bor, IfSome}
+use Rattle.rx_spec.proofs.Prelude.{option_map_or, Row}
+use Rattle.rx_stepper.proofs.Prelude.{AreEmpty, Steps, matches_in, meaning, patterns_of, without}
 use Rattle.rx_stepper.proofs.Without.{without_nil}
 use Rattle.rx_stepper.proofs.gathered.write_label.Goals as goal
 
@@ -12,8 +8,7 @@ use Rattle.rx_stepper.proofs.gathered.write_label.Goals as goal
 none_told : (rows : List Row) (group : ℕ) {mine : List ℕ} (lead : Option (Bor Steps)) → mine ≡ []
     → IfSome lead (λ s. AreEmpty (map (λ v. v.items) s.now.matches.items))
     → patterns_of rows (mine ++ option_map_or (λ s. without mine (matches_in s.now group)) lead []) ≡ []
-none_told rows group None none empty = ap (λ l. patterns_of rows (l ++ [])) none
-none_told rows group (Some s) none empty = grind (arith, common_steps, without_nil)
+none_told rows group lead none empty = grind (arith, common_steps, without_nil)
 
 pub returns-then-not-may_match : goal.returns-then-not-may_match
 returns-then-not-may_match c =

@@ -1,5 +1,5 @@
 use Rattle.rx_spec.proofs.Prelude.{common_steps, [], ◌-◌, arith}
-use Rattle.rx_stepper.specs.Keys.{label_of}
+use Rattle.rx_stepper.proofs.Prelude.{label_of}
 use Rattle.rx_stepper.proofs.keys.label_of.Goals as goal
 
 pub returns-then-key-lt3 : goal.returns-then-key-lt3

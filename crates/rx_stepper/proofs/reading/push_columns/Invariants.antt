@@ -1,5 +1,5 @@
 use Rattle.rx_spec.proofs.Prelude.{◌≡◌, ◌++◌, ℕ, map, filter, slice_index, range_with_len, contains}
-use Rattle.rx_base.specs.Unit.{unit_number}
+use Rattle.rx_stepper.proofs.Prelude.{unit_number}
 use Rattle.rx_stepper.proofs.reading.push_columns.Given as goal
 
 abbrev pub invariant-loop-column : goal.invariant-loop-column

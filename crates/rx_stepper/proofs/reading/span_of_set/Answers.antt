@@ -1,5 +1,5 @@
 use Rattle.rx_spec.proofs.Prelude.{◌≡◌, length, map, rules, length-map}
-use Rattle.rx_base.specs.Unit.{unit_number}
+use Rattle.rx_stepper.proofs.Prelude.{unit_number}
 use Rattle.rx_stepper.proofs.ListedColumns.{set_added, set_listed, listed_still}
 use Rattle.rx_stepper.proofs.reading.span_of_set.Goals as goal
 

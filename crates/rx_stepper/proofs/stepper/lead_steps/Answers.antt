@@ -1,5 +1,5 @@
 use Rattle.rx_spec.proofs.Prelude.{common_steps, ap, sym, ◌∙◌, subst, arith, IfSome, length, ◌<◌}
-use Rattle.rx_stepper.specs.Steps.{goes_on}
+use Rattle.rx_stepper.proofs.Prelude.{goes_on}
 use Rattle.rx_stepper.proofs.EmptyLists.{list_there}
 use Rattle.rx_stepper.proofs.LeadPlaces.{at_or}
 use Rattle.rx_stepper.proofs.stepper.lead_steps.Goals as goal

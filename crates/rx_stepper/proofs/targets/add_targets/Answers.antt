@@ -1,6 +1,6 @@
 use Rattle.rx_spec.proofs.Prelude.{common_steps, ℕ, map, ap, ◌∙◌, arith, take_all, slice_index, ◌++◌, flat_map, row_at}
 use Rattle.rx_spec.proofs.Prelude.{target}
-use Rattle.rx_stepper.specs.Columns.{takes, only_if, list_at}
+use Rattle.rx_stepper.proofs.Prelude.{list_at, only_if, takes}
 use Rattle.rx_stepper.proofs.TargetLists.{led_filtered}
 use Rattle.rx_stepper.proofs.targets.add_targets.Goals as goal
 

@@ -1,6 +1,6 @@
 use Rattle.rx_spec.proofs.Prelude.{◌≡◌, ℕ, ◌<◌, ◌++◌, List, length, map, take, slice_index, flat_map, Row, row_at}
 use Rattle.rx_spec.proofs.Prelude.{target}
-use Rattle.rx_stepper.specs.Columns.{list_at, only_if, takes, Reads}
+use Rattle.rx_stepper.proofs.Prelude.{Reads, list_at, only_if, takes}
 use Rattle.rx_stepper.proofs.targets.add_targets.Given as goal
 
 abbrev pub invariant-loop-row : goal.invariant-loop-row

@@ -1,5 +1,5 @@
 use Rattle.rx_spec.proofs.Prelude.{common_steps, ◌<◌, length, map, get_or, refl, ap, sym, ◌∙◌, arith, rules}
-use Rattle.rx_stepper.specs.Columns.{list_at, takes}
+use Rattle.rx_stepper.proofs.Prelude.{list_at, takes}
 use Rattle.rx_stepper.proofs.TargetLists.{column_taken}
 use Rattle.rx_stepper.proofs.targets.push_each.Goals as goal
 use Rattle.rx_stepper.proofs.targets.push_each.Goals.{then-takes+in_ok-push, else-takes}

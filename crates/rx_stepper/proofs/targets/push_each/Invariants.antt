@@ -1,5 +1,5 @@
 use Rattle.rx_spec.proofs.Prelude.{◌≡◌, ℕ, ◌++◌, length, map, take, filter}
-use Rattle.rx_stepper.specs.Columns.{led_by, list_at, takes}
+use Rattle.rx_stepper.proofs.Prelude.{led_by, list_at, takes}
 use Rattle.rx_stepper.proofs.targets.push_each.Given as goal
 
 abbrev pub invariant-loop-column : goal.invariant-loop-column

@@ -1,6 +1,5 @@
 use Rattle.rx_spec.proofs.Prelude.{◌≡◌, length, ap, sym, ◌∙◌, subst, arith, rules, length-map}
-use Rattle.rx_expr.specs.Nfa.{meaning, row_of}
-use Rattle.rx_stepper.specs.ThinRows.{row_of_thin, IsThin}
+use Rattle.rx_stepper.proofs.Prelude.{IsThin, meaning, row_of, row_of_thin}
 use Rattle.rx_stepper.proofs.ThinLists.{row_there, thin_push, thin_all}
 use Rattle.rx_stepper.proofs.thin_row.thin_rows.Goals as goal
 

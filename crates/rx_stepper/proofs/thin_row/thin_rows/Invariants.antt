@@ -1,6 +1,5 @@
 use Rattle.rx_spec.proofs.Prelude.{◌≡◌, ℕ, ◌<◌, length, row_at}
-use Rattle.rx_expr.specs.Nfa.{meaning}
-use Rattle.rx_stepper.specs.ThinRows.{row_of_thin, thin_at, IsThin}
+use Rattle.rx_stepper.proofs.Prelude.{IsThin, meaning, row_of_thin, thin_at}
 use Rattle.rx_stepper.proofs.thin_row.thin_rows.Given as goal
 
 abbrev pub invariant-loop-row : goal.invariant-loop-row

@@ -6,7 +6,7 @@ use Rattle.rx_stream.proofs.Pieces.{skip_found, skip_none}
 use Rattle.rx_stream.proofs.skips.skip.Goals as goal
 
 pub returns-in-Some : goal.returns-in-Some
-returns-in-Some g c = grind (arith, common_steps, standing, skip_found, some_needles, take_rest)
+returns-in-Some g c = grind (arith, common_steps, standing, skip_found)
 
 pub returns-in-None : goal.returns-in-None
 returns-in-None g c =

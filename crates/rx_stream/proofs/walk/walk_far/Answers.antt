@@ -12,9 +12,9 @@ bytes-preserved g c =
     let s = standing c.next_state-row.result (met.sound table c.requires.sound) (met.are_ids table) next.is_id in
     record {
       is_id = next.is_id;
-      walk = walk_goes_on c.bytes.invariant.walk (omega (arith, c.bytes-test.true)) (turn_to next.row s)
+      walk = walk_goes_on c.bytes.invariant.walk (omega arith) (turn_to next.row s)
           (ordinary s (sym c.is_special_state.ensures ∙ c.if-not-is_special_state.true));
-      on = (let before = c.bytes.invariant.on in omega (arith, before));
+      on = (let before = c.bytes.invariant.on in omega arith);
     }
 
 pub returns-in-Some : goal.returns-in-Some
@@ -24,7 +24,7 @@ returns-in-Some g c =
     let ids = g.A.Automaton.ids table in
     let next = c.next_state-row.ensures in
     let s = standing c.next_state-row.result (met.sound table c.requires.sound) (met.are_ids table) next.is_id in
-    walk_halts ids c.next_state-row.result c.bytes.invariant.walk (omega (arith, c.bytes-test.true))
+    walk_halts ids c.next_state-row.result c.bytes.invariant.walk (omega arith)
     (turn_to next.row s) next.is_id c.in-Some.halt (rw c.in-Some.is at c.met.ensures)
 
 pub passes-preserved-in-bytes : goal.passes-preserved-in-bytes
@@ -36,7 +36,7 @@ passes-preserved-in-bytes g c =
     let s = standing c.next_state-row.result (met.sound table c.requires.sound) (met.are_ids table) next.is_id in
     let bytes = bytes_of c.args.piece.now c.args.piece.now refl (λ k. omega (arith, c.type_inv.piece k)) in (
       next.is_id,
-      walk_passes_by ids c.next_state-row.result c.bytes.invariant.walk (omega (arith, c.bytes-test.true))
+      walk_passes_by ids c.next_state-row.result c.bytes.invariant.walk (omega arith)
           (turn_to next.row s) bytes (rw c.in_default.is at c.met.ensures) c.skip-at.ensures,
     )
 
@@ -49,7 +49,7 @@ passes-preserved g c =
     let bytes = bytes_of c.args.piece.now c.args.piece.now refl (λ k. omega (arith, c.type_inv.piece k)) in
     let passed = c.pass_on.ensures in (
       passed.is_id,
-      walk_passes bytes s walk.walk passed.leads (let high = walk.walk.high in omega (arith, high, passed.within)),
+      walk_passes bytes s walk.walk passed.leads (let high = walk.walk.high in omega arith),
     )
 
 pub passes-smaller-in-bytes : goal.passes-smaller-in-bytes

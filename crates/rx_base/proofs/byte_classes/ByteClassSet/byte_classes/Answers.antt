@@ -1,4 +1,4 @@
-use Rattle.rx_spec.proofs.Prelude.{common_steps, length-set, get_or-set_same, get_or-set_other, arith, contains}
+use Rattle.rx_spec.proofs.Prelude.{common_steps, arith, contains}
 use Rattle.rx_base.proofs.Classes.{class_by-zero, class_by-next, class_by-le, AreClasses-class_by}
 use Rattle.rx_base.proofs.byte_classes.ByteClassSet.byte_classes.Goals as goal
 
@@ -9,7 +9,7 @@ pub overflow_add-class : goal.overflow_add-class
 overflow_add-class c = grind (arith, common_steps, class_by-le)
 
 pub loop-byte-preserved : goal.loop-byte-preserved
-loop-byte-preserved c = grind (arith, common_steps, class_by-next, length-set, get_or-set_other, get_or-set_same)
+loop-byte-preserved c = grind (arith, common_steps, class_by-next)
 
 pub invariant_of-result : goal.invariant_of-result
 invariant_of-result c =

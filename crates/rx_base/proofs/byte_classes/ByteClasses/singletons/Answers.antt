@@ -8,7 +8,7 @@ loop-byte-init c = (c.empty-2.invariant.count, λ b h. absurd (omega arith))
 pub loop-byte-preserved : goal.loop-byte-preserved
 loop-byte-preserved c =
     let known = c.loop-byte.invariant in
-    let within : c.loop-byte.byte < length c.loop-byte.classes = omega (arith, known.0) in (
+    let within : c.loop-byte.byte < length c.loop-byte.classes = omega arith in (
       rw length-set known.0,
       below_more _ _
           (λ b h. let other : b ≢ c.loop-byte.byte = omega arith in rw get_or-set_other (known.1 b h))

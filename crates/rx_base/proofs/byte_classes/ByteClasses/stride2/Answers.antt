@@ -1,15 +1,14 @@
-use Rattle.rx_spec.proofs.Prelude.{rules, ◌≡◌, ◌+◌, ◌-◌, ◌^◌, ◌<◌, ◌∙◌, ap, arith, common_steps, one_shl}
-use Rattle.rx_spec.proofs.Prelude.{least_exponent}
-use Rattle.rx_base.proofs.Classes.{least_exponent-next, least_exponent-here, alphabet_len-le, exponent-below}
+use Rattle.rx_spec.proofs.Prelude.{rules, ◌≡◌, ◌+◌, ◌-◌, ◌^◌, ◌<◌, ◌∙◌, ap, arith, common_steps, least_exponent}
+use Rattle.rx_base.proofs.Classes.{least_exponent-next, least_exponent-here, alphabet_len-le}
 use Rattle.rx_base.proofs.byte_classes.ByteClasses.stride2.Goals as goal
 use Rattle.rx_base.proofs.byte_classes.ByteClasses.stride2.Goals.{In-loop-exponent}
 
 -- the exponent is too small, and so it is below 9
 too_small : (c : In-loop-exponent) → 2 ^ c.loop-exponent.exponent < c.alphabet_len-len.result
-too_small c = grind (arith, common_steps, one_shl)
+too_small c = grind (arith, common_steps)
 
 below : (c : In-loop-exponent) → c.loop-exponent.exponent < 9
-below c = search (rules, alphabet_len-le, exponent-below, too_small)
+below c = search (rules, alphabet_len-le)
 
 pub loop-exponent-smaller : goal.loop-exponent-smaller
 loop-exponent-smaller c = omega (arith, below c)
@@ -25,4 +24,4 @@ loop-exponent-preserved c =
     )
 
 pub returns : goal.returns
-returns c = grind (arith, common_steps, one_shl, least_exponent-here)
+returns c = grind (arith, common_steps, least_exponent-here)

@@ -11,15 +11,13 @@ bounds-words-as_usize g c =
 pub must-requires : goal.must-requires
 must-requires g c =
     let l = c.args.self.now in
-    let rows = c.words.ensures.rows in
-    let within = entry_within l rows c.args.id c.args.column c.requires.is_id c.requires.within in
+    let within = entry_within l c.words.ensures.rows c.args.id c.args.column c.requires.is_id c.requires.within in
     grind (arith, common_steps, from_column_is, entry_few)
 
 pub returns : goal.returns
 returns g c =
     let l = c.args.self.now in
-    let rows = c.words.ensures.rows in
-    let within = entry_within l rows c.args.id c.args.column c.requires.is_id c.requires.within in
+    let within = entry_within l c.words.ensures.rows c.args.id c.args.column c.requires.is_id c.requires.within in
     let value : c.must.result ≡ slice_index l.words (c.args.id + c.args.column) =
     (rw (c.words.ensures.value, c.as_usize.ensures.value) at c.must.ensures)
     ∙ from_column_is l.words c.args.column c.args.id within in

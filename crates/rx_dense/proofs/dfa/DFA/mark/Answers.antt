@@ -11,20 +11,18 @@ pub must-requires : goal.must-requires
 must-requires g c =
     let l = c.args.self.now in
     let marks = g.T.WordStore.list c.self.inside.marks in
-    let are = subst (λ l. HasMarks l marks) c.self.view_is c.self.inside.marked in
     let f = found l marks c.args.id (rw c.special.ensures at c.place_in_range-place.ensures) c.words.ensures
     (sym c.in-Some.ensures.lookup.0) c.in-Some.ensures.lookup.1 in
-    rw f.mark_is (are.each _ f.has).is_pattern
+    rw f.mark_is (((subst (λ l. HasMarks l marks) c.self.view_is c.self.inside.marked).each) _ f.has).is_pattern
 
 pub returns-in-Some-clause-first : goal.returns-in-Some-clause-first
 returns-in-Some-clause-first g c =
     let l = c.args.self.now in
     let marks = g.T.WordStore.list c.self.inside.marks in
-    let are = subst (λ l. HasMarks l marks) c.self.view_is c.self.inside.marked in
     let shaped = subst IsShaped c.self.view_is c.self.invariant in
     let f = found l marks c.args.id (rw c.special.ensures at c.place_in_range-place.ensures) c.words.ensures
     (sym c.in-Some.ensures.lookup.0) c.in-Some.ensures.lookup.1 in
-    grind (arith, common_steps, mark_first)
+    grind (arith, common_steps, mark_first, (subst (λ l. HasMarks l marks) c.self.view_is c.self.inside.marked))
 
 pub returns-in-Some-clause-ends : goal.returns-in-Some-clause-ends
 returns-in-Some-clause-ends g c final = grind (arith, common_steps, found, mark_final, leb-true)

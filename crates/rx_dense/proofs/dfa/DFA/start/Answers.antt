@@ -4,20 +4,18 @@ use Rattle.rx_dense.proofs.dfa.DFA.start.Goals as goal
 
 pub must-requires : goal.must-requires
 must-requires g c =
-    let l = c.args.self.now in
     rw (c.start_ids-starts.ensures.value, c.mode_place-first.ensures.value, c.context_number.ensures.value)
-    (id_few l c.start_ids-starts.ensures.rows _
-    (start_is_row l c.start_ids-starts.ensures.starts (mode_of c.args.mode) c.args.start
+    (id_few c.args.self.now c.start_ids-starts.ensures.rows _
+    (start_is_row c.args.self.now c.start_ids-starts.ensures.starts (mode_of c.args.mode) c.args.start
     (rw (c.start_ids-starts.ensures.value, c.mode_place-first.ensures.value) at c.if-first-starts.false)))
 
 pub returns-clause-is_row : goal.returns-clause-is_row
 returns-clause-is_row g c =
-    let l = c.args.self.now in
     rw (
       c.must.ensures,
       c.start_ids-starts.ensures.value,
       c.mode_place-first.ensures.value,
       c.context_number.ensures.value,
     )
-    (start_is_row l c.start_ids-starts.ensures.starts (mode_of c.args.mode) c.args.start
+    (start_is_row c.args.self.now c.start_ids-starts.ensures.starts (mode_of c.args.mode) c.args.start
     (rw (c.start_ids-starts.ensures.value, c.mode_place-first.ensures.value) at c.if-first-starts.false))

@@ -20,6 +20,5 @@ loop-byte-preserved c =
 
 pub returns : goal.returns
 returns c =
-    let inv = c.loop-byte.invariant in
-    fill_by_all (start_of_byte c.args.lookm.now) c.loop-byte.contexts 256 Start.NonWordByte inv.0
-    (λ k h. inv.2 k (omega arith))
+    fill_by_all (start_of_byte c.args.lookm.now) c.loop-byte.contexts 256 Start.NonWordByte c.loop-byte.invariant.0
+    (λ k h. c.loop-byte.invariant.2 k (omega arith))

@@ -1,4 +1,4 @@
-use Rattle.rx_spec.proofs.Prelude.{common_steps, ◌≤◌, arith}
+use Rattle.rx_spec.proofs.Prelude.{common_steps, arith}
 use Rattle.rx_base.specs.ByteClasses.{alphabet_len}
 use Rattle.lemmas_tables.proofs.ClassNumbers.{stride_holds, stride_within}
 use Rattle.rx_dense.proofs.Rows.{alphabet_few, stride_few, stride_shifted}
@@ -9,13 +9,11 @@ overflow_shl-stride c = grind (arith, common_steps, stride_within)
 
 pub prove-unreachable-requires : goal.prove-unreachable-requires
 prove-unreachable-requires c =
-    let alphabet = c.alphabet_len-alphabet_len.ensures in
     let within = stride_within (alphabet_len c.args.classes.now) (omega arith) in
-    let exponent : c.stride2-stride.result ≤ 9 = omega arith in
-    let few = alphabet_few c.args.classes.now alphabet.classes in
+    let few = alphabet_few c.args.classes.now c.alphabet_len-alphabet_len.ensures.classes in
     let holds =
     rw (← c.stride2-stride.ensures) at (stride_holds (alphabet_len c.args.classes.now) (omega arith)) in
-    omega (arith, stride_shifted c.stride2-stride.result exponent)
+    omega (arith, stride_shifted c.stride2-stride.result (omega arith))
 
 pub overflow_mul-result : goal.overflow_mul-result
 overflow_mul-result c = grind (arith, common_steps, stride_within, stride_few)

@@ -10,14 +10,13 @@ loop-id-preserved c =
     let s = c.args.stride2 in
     let new_ids = c.args.new_ids.now in
     let id = slice_index c.loop-id.ids i in
-    let within : i < length c.args.ids.now = omega arith in
     let old : slice_index c.loop-id.ids i ≡ slice_index c.args.ids.now i =
     ap (λ ids. slice_index ids i) c.loop-id.invariant ∙ grind (arith, places) in
     let row : slice_index c.loop-id.ids i / 2 ^ s < length new_ids =
-    rw old (All-get_or (λ id. id / 2 ^ s < length new_ids) c.args.ids.now i 0 within c.requires.rows) in
+    rw old (All-get_or (λ id. id / 2 ^ s < length new_ids) c.args.ids.now i 0 (omega arith) c.requires.rows) in
     let value : c.as_u32.result ≡ slice_index new_ids (id / 2 ^ s) =
     c.as_u32.ensures.value ∙ c.index-new_ids-id.is
     ∙ get_or_default new_ids (id / 2 ^ s) c.index-new_ids-id.result 0 row in
     rw value
-    (map_over_more (λ (id : ℕ). slice_index new_ids (id / 2 ^ s)) c.args.ids.now c.loop-id.ids i id within
+    (map_over_more (λ (id : ℕ). slice_index new_ids (id / 2 ^ s)) c.args.ids.now c.loop-id.ids i id (omega arith)
     c.loop-id.invariant (get_or_default c.loop-id.ids i 0 id (omega arith)))

@@ -17,8 +17,7 @@ columns-preserved c =
     let place : ℕ = at + column in
     let w : ℕ = c.word-word.result in
     let wide : ℕ = length columns.kept.now in
-    let within : column < wide = search rules in
-    let is_column : place % wide ≡ column = wraps at column wide (search rules) within in
+    let is_column : place % wide ≡ column = wraps at column wide (search rules) (search rules) in
     let is : w ≡ kept_word columns bytes place =
     c.word-word.ensures
     ∙ ap (λ (m : ℕ). bit_and (word_at columns.order bytes place) (slice_index columns.kept.now m)) (sym is_column) in
@@ -56,12 +55,11 @@ pub rounds-preserved : goal.rounds-preserved
 rounds-preserved c =
     let at : ℕ = c.rounds.at in
     let width : ℕ = length c.args.self.now.kept.now in
-    let round : ℕ = c.min-round.result in
-    let least : round ≡ min width (c.args.count - at) = search rules in
+    let least : c.min-round.result ≡ min width (c.args.count - at) = search rules in
     record {
       within = search rules;
       begins = λ left.
-          ap (λ (n : ℕ). (at + n) % width) (whole at width c.args.count round least left)
+          ap (λ (n : ℕ). (at + n) % width) (whole at width c.args.count c.min-round.result least left)
           ∙ next_begins at width (search rules);
       room = search rules;
       len = search rules;

@@ -1,11 +1,7 @@
 use Rattle.rx_spec.proofs.Prelude.{common_steps, ◌≡◌, ◌≤◌, Bool, true, All, ap, ◌∙◌, subst, sym, arith, All-weaker}
 use Rattle.rx_spec.proofs.Prelude.{err_from_is_err_and, max_id}
-use Rattle.rx_expr.specs.Nfa.{meaning}
-use Rattle.rx_stepper.specs.Keys.{label_of}
-use Rattle.rx_stepper.specs.Stepping.{HasOneKeyEach, SpellStates, Stepping}
-use Rattle.rx_stepper.specs.Steppers.{stepping_of}
-use Rattle.rx_determinize.specs.Constructions.{AreUnits, Continues, work_of}
-use Rattle.rx_determinize.specs.Determinized.{IsBegunWith}
+use Rattle.rx_determinize.proofs.Prelude.{AreUnits, Continues, HasOneKeyEach, IsBegunWith, SpellStates, Stepping}
+use Rattle.rx_determinize.proofs.Prelude.{label_of, meaning, stepping_of, work_of}
 use Rattle.rx_determinize.proofs.AddingLaws.{few_keys}
 use Rattle.rx_determinize.proofs.BuiltLaws.{IsBuilt}
 use Rattle.rx_determinize.proofs.ContinuesLaws.{continues_twice, refused_later}

@@ -1,6 +1,5 @@
 use Rattle.rx_spec.proofs.Prelude.{refl, ap, sym, subst, MatchBool, IsSupported, IsUnsupported}
-use Rattle.rx_expr.specs.Nfa.{meaning}
-use Rattle.rx_determinize.specs.Determinized.{Settings, build_in}
+use Rattle.rx_determinize.proofs.Prelude.{Settings, build_in, meaning}
 use Rattle.rx_determinize.proofs.DeterminizedLaws.{IsInPlace, determinized}
 use Rattle.rx_determinize.proofs.LimitLaws.{beginning_of}
 use Rattle.rx_determinize.proofs.config.Config.run.Goals as goal

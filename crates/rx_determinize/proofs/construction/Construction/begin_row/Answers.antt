@@ -1,8 +1,5 @@
 use Rattle.rx_spec.proofs.Prelude.{◌≡◌, ◌*◌, ℕ, Some, ap, sym, ◌∙◌, subst, arith}
-use Rattle.rx_dense.specs.Builder.{IsCopied}
-use Rattle.rx_dense.specs.Layouts.{stride}
-use Rattle.rx_stepper.specs.Steppers.{stepping_of}
-use Rattle.rx_determinize.specs.Models.{model_row}
+use Rattle.rx_determinize.proofs.Prelude.{IsCopied, model_row, stepping_of, stride}
 use Rattle.rx_determinize.proofs.ModelLaws.{model_before, stepping_copied}
 use Rattle.rx_determinize.proofs.SteppingLaws.{place_row}
 use Rattle.rx_determinize.proofs.construction.Construction.begin_row.Goals.{In-Some}

@@ -1,6 +1,5 @@
 use Rattle.rx_spec.proofs.Prelude.{◌≡◌, length, subst, arith, err_from_is_err_and}
-use Rattle.rx_determinize.specs.Constructions.{keys_in, work_of}
-use Rattle.rx_determinize.specs.Filling.{IsEntering}
+use Rattle.rx_determinize.proofs.Prelude.{IsEntering, keys_in, work_of}
 use Rattle.rx_determinize.proofs.AddingLaws.{few_keys}
 use Rattle.rx_determinize.proofs.ContinuesLaws.{continues_none, continues_twice, refused_later}
 use Rattle.rx_determinize.proofs.ModelLaws.{models_none}

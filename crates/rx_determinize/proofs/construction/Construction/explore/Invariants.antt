@@ -1,6 +1,5 @@
 use Rattle.rx_spec.proofs.Prelude.{◌-◌, ◌^◌}
-use Rattle.rx_determinize.specs.Constructions.{Continues, work_of}
-use Rattle.rx_determinize.specs.Models.{IsExploring}
+use Rattle.rx_determinize.proofs.Prelude.{Continues, IsExploring, work_of}
 use Rattle.rx_determinize.proofs.construction.Construction.explore.Given as goal
 
 -- the rows of the states below this place are written

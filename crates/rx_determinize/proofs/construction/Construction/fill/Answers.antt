@@ -1,8 +1,5 @@
 use Rattle.rx_spec.proofs.Prelude.{common_steps, ◌≡◌, ℕ, false, ap, ◌∙◌, arith, inl, err_from_is_err_and, contains}
-use Rattle.rx_base.specs.ByteClasses.{alphabet_len}
-use Rattle.rx_stepper.specs.Stepping.{unit_of}
-use Rattle.rx_determinize.specs.Constructions.{work_of}
-use Rattle.lemmas_walks.proofs.QuitSets.{contains-empty}
+use Rattle.rx_determinize.proofs.Prelude.{alphabet_len, contains-empty, unit_of, work_of}
 use Rattle.rx_determinize.proofs.ColumnLaws.{units_count}
 use Rattle.rx_determinize.proofs.ContinuesLaws.{continues_none, continues_twice, refused_later, same_classes, same_quit}
 use Rattle.rx_determinize.proofs.FillingLaws.{filled}

@@ -1,7 +1,5 @@
 use Rattle.rx_spec.proofs.Prelude.{◌≤◌, ◌-◌, length}
-use Rattle.rx_base.specs.ByteClasses.{alphabet_len}
-use Rattle.rx_determinize.specs.Constructions.{Continues, work_of}
-use Rattle.rx_determinize.specs.Filling.{IsStepping}
+use Rattle.rx_determinize.proofs.Prelude.{Continues, IsStepping, alphabet_len, work_of}
 use Rattle.rx_determinize.proofs.construction.Construction.fill.Given as goal
 
 -- the columns below this one are ready

@@ -1,11 +1,7 @@
 use Rattle.rx_spec.proofs.Prelude.{arith, ◌≡◌, ℕ, true, Option, refl, ap, subst, common_steps, IfSome, MatchBool}
 use Rattle.rx_spec.proofs.Prelude.{is_dead_state}
-use Rattle.rx_stepper.specs.Stepping.{IsKeyOf, Stepping, stepped}
-use Rattle.rx_stepper.specs.Steppers.{stepping_of}
-use Rattle.rx_determinize.specs.Adding.{CanAdd}
-use Rattle.rx_determinize.specs.Constructions.{keys_in, work_of}
-use Rattle.rx_determinize.specs.Filling.{IsStepped}
-use Rattle.rx_determinize.specs.Working.{states_of}
+use Rattle.rx_determinize.proofs.Prelude.{CanAdd, IsKeyOf, IsStepped, Stepping, keys_in, states_of, stepped}
+use Rattle.rx_determinize.proofs.Prelude.{stepping_of, work_of}
 use Rattle.rx_determinize.proofs.NextLaws.{dead_id, dead_is_row, found_added, found_before, key_may, may_by}
 use Rattle.rx_determinize.proofs.NextLaws.{stepped_alike, stepped_reached, working_by}
 use Rattle.rx_determinize.proofs.SteppingLaws.{current_reached}

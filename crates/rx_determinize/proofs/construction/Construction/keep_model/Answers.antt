@@ -1,6 +1,5 @@
 use Rattle.rx_spec.proofs.Prelude.{common_steps, ◌+◌, ℕ, List, Option, sym, subst, arith}
-use Rattle.rx_determinize.specs.Constructions.{keys_in, work_of}
-use Rattle.rx_determinize.specs.Models.{AreModels, IsAllAlone, kept_in}
+use Rattle.rx_determinize.proofs.Prelude.{AreModels, IsAllAlone, kept_in, keys_in, work_of}
 use Rattle.rx_determinize.proofs.ColumnLaws.{units_count}
 use Rattle.rx_determinize.proofs.ModelLaws.{model_added, model_of_alone}
 use Rattle.rx_determinize.proofs.construction.Construction.keep_model.Goals as goal

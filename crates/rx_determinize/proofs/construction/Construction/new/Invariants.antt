@@ -1,6 +1,5 @@
 use Rattle.rx_spec.proofs.Prelude.{◌≡◌, [], ◌∷◌, ◌++◌, map, eoi, representatives}
-use Rattle.rx_base.specs.ByteClasses.{ends_of}
-use Rattle.rx_base.specs.Unit.{unit_number}
+use Rattle.rx_determinize.proofs.Prelude.{ends_of, unit_number}
 use Rattle.rx_determinize.proofs.construction.Construction.new.Given as goal
 
 -- the units so far, and those that are left

@@ -1,10 +1,6 @@
 use Rattle.rx_spec.proofs.Prelude.{common_steps, ◌≡◌, ◌+◌, ◌<◌, ℕ, true, false, length, ap, ap₂, sym, ◌∙◌, subst, arith}
 use Rattle.rx_spec.proofs.Prelude.{contains}
-use Rattle.rx_base.specs.Unit.{unit_number}
-use Rattle.rx_dense.specs.Builder.{with_next}
-use Rattle.rx_stepper.specs.Stepping.{IsAlone, unit_of}
-use Rattle.rx_stepper.specs.Steppers.{stepping_of}
-use Rattle.rx_determinize.specs.Constructions.{work_of}
+use Rattle.rx_determinize.proofs.Prelude.{IsAlone, stepping_of, unit_number, unit_of, with_next, work_of}
 use Rattle.rx_determinize.proofs.ColumnLaws.{unit_is, units_count}
 use Rattle.rx_determinize.proofs.ContinuesLaws.{continues_none}
 use Rattle.rx_determinize.proofs.SteppingLaws.{passed_to, place_row, quit_led, written}

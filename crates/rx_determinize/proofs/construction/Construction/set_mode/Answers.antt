@@ -1,9 +1,5 @@
 use Rattle.rx_spec.proofs.Prelude.{common_steps, ◌≡◌, ◌+◌, ap, sym, subst, arith, err_from_is_err_and}
-use Rattle.rx_base.specs.Search.{mode_of}
-use Rattle.rx_dense.specs.Layouts.{mode_place}
-use Rattle.rx_dense.proofs.Rows.{IsId-row_id}
-use Rattle.rx_determinize.specs.Constructions.{work_of}
-use Rattle.rx_determinize.specs.Filling.{IsEntering}
+use Rattle.rx_determinize.proofs.Prelude.{IsEntering, IsId-row_id, mode_of, mode_place, work_of}
 use Rattle.rx_determinize.proofs.ContinuesLaws.{continues_none, continues_twice, refused_later}
 use Rattle.rx_determinize.proofs.ModeLaws.{context_set, mode_reached, starts_later}
 use Rattle.rx_determinize.proofs.StartLaws.{SetsStart, context_at, start_continues, start_set}

@@ -1,8 +1,5 @@
 use Rattle.rx_spec.proofs.Prelude.{◌+◌}
-use Rattle.rx_base.specs.Search.{mode_of}
-use Rattle.rx_dense.specs.Layouts.{mode_place}
-use Rattle.rx_determinize.specs.Constructions.{Continues, work_of}
-use Rattle.rx_determinize.specs.Filling.{IsEntering}
+use Rattle.rx_determinize.proofs.Prelude.{Continues, IsEntering, mode_of, mode_place, work_of}
 use Rattle.rx_determinize.proofs.construction.Construction.set_mode.Given as goal
 
 -- the entries of the contexts so far are set

@@ -1,10 +1,7 @@
 use Rattle.rx_spec.proofs.Prelude.{common_steps, ◌≡◌, ◌+◌, ◌*◌, ℕ, Bool, true, false, length, ap, ap₂, sym, ◌∙◌, subst}
 use Rattle.rx_spec.proofs.Prelude.{arith, err_from_is_err_and, then_some, is_some, slice_get, Nfa, has_anchored}
 use Rattle.rx_spec.proofs.Prelude.{has_unanchored}
-use Rattle.rx_dense.specs.Layouts.{Layout}
-use Rattle.rx_expr.specs.Nfa.{meaning}
-use Rattle.rx_determinize.specs.Constructions.{Continues, work_of}
-use Rattle.rx_determinize.specs.Filling.{IsEntering}
+use Rattle.rx_determinize.proofs.Prelude.{Continues, IsEntering, Layout, meaning, work_of}
 use Rattle.rx_determinize.proofs.ContinuesLaws.{continues_twice, refused_later}
 use Rattle.rx_determinize.proofs.ModeLaws.{entries_with, entries_without, starts_at_no, starts_at_pattern}
 use Rattle.rx_determinize.proofs.ModeLaws.{starts_at_yes, entries_twelve, starts_later}

@@ -1,6 +1,5 @@
 use Rattle.rx_spec.proofs.Prelude.{◌+◌, ◌*◌}
-use Rattle.rx_determinize.specs.Constructions.{Continues, work_of}
-use Rattle.rx_determinize.specs.Filling.{IsEntering}
+use Rattle.rx_determinize.proofs.Prelude.{Continues, IsEntering, work_of}
 use Rattle.rx_determinize.proofs.construction.Construction.set_starts.Given as goal
 
 -- the entries of the patterns so far are set

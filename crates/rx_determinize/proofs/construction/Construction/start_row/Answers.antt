@@ -1,11 +1,6 @@
 use Rattle.rx_spec.proofs.Prelude.{arith, ◌≡◌, Option, true, false, ℕ, refl, ap, sym, subst, common_steps, when_false}
 use Rattle.rx_spec.proofs.Prelude.{IfSome, IsReached, dead, is_dead_state, start_node, start_state}
-use Rattle.rx_stepper.specs.Stepping.{IsKeyOf, Stepping}
-use Rattle.rx_stepper.specs.Steppers.{stepping_of}
-use Rattle.rx_determinize.specs.Adding.{CanAdd}
-use Rattle.rx_determinize.specs.Constructions.{keys_in, work_of}
-use Rattle.rx_determinize.specs.Filling.{FindsRow}
-use Rattle.rx_determinize.specs.Working.{states_of}
+use Rattle.rx_determinize.proofs.Prelude.{CanAdd, FindsRow, IsKeyOf, Stepping, keys_in, states_of, stepping_of, work_of}
 use Rattle.rx_determinize.proofs.NextLaws.{dead_id, dead_is_row, found_added, found_before, key_may, may_by, over_by}
 use Rattle.rx_determinize.proofs.NextLaws.{working_by}
 use Rattle.rx_determinize.proofs.StartLaws.{zero_row}

@@ -1,10 +1,7 @@
 use Rattle.rx_spec.proofs.Prelude.{arith, ◌≡◌, ◌+◌, ℕ, true, List, [], ap, sym, subst, common_steps, All-get_or}
 use Rattle.rx_spec.proofs.Prelude.{get_or_from_slice_get, err_from_is_err_and}
-use Rattle.rx_stepper.specs.Stepping.{Stepping}
-use Rattle.rx_stepper.specs.Steppers.{stepping_of}
-use Rattle.rx_determinize.specs.Constructions.{Continues, work_of}
-use Rattle.rx_determinize.specs.Models.{AreModels, IsExploring}
-use Rattle.rx_determinize.specs.Working.{Keying, keying}
+use Rattle.rx_determinize.proofs.Prelude.{keying, AreModels, Continues, IsExploring, Keying, Stepping, stepping_of}
+use Rattle.rx_determinize.proofs.Prelude.{work_of}
 use Rattle.rx_determinize.proofs.ContinuesLaws.{continues_twice, refused_later}
 use Rattle.rx_determinize.proofs.ModelLaws.{models_later}
 use Rattle.rx_determinize.proofs.SteppingLaws.{stepping_begun}

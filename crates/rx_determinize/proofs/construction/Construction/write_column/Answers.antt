@@ -1,8 +1,5 @@
 use Rattle.rx_spec.proofs.Prelude.{common_steps, ◌≡◌, ◌<◌, ℕ, length, ap₂, ◌∙◌, arith}
-use Rattle.rx_base.specs.Unit.{unit_number}
-use Rattle.rx_dense.specs.Builder.{with_next}
-use Rattle.rx_dense.proofs.Rows.{IsId-row_id}
-use Rattle.rx_stepper.specs.Stepping.{unit_of}
+use Rattle.rx_determinize.proofs.Prelude.{IsId-row_id, unit_number, unit_of, with_next}
 use Rattle.rx_determinize.proofs.ContinuesLaws.{continues_twice}
 use Rattle.rx_determinize.proofs.ColumnLaws.{unit_is, units_count}
 use Rattle.rx_determinize.proofs.SteppingLaws.{found_row, found_with, stepped_on}

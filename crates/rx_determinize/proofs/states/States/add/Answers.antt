@@ -2,10 +2,8 @@
 use Rattle.rx_spec.proofs.Prelude.{common_steps, ◌≡◌, ℕ, ◌+◌, ◌*◌, ◌^◌, ◌≤◌, List, [], ◌∷◌, ◌++◌, length, sym, ap, ◌∙◌}
 use Rattle.rx_spec.proofs.Prelude.{subst, refl, arith, true, false, length_push, slice_get_within, err_from_is_err_and}
 use Rattle.rx_spec.proofs.Prelude.{not-false, not-true}
-use Rattle.rx_dense.specs.Layouts.{Layout, AreRows, row_count, stride}
-use Rattle.rx_stepper.specs.Steppers.{stepping_of}
+use Rattle.rx_determinize.proofs.Prelude.{keying, AreRows, IsWorking, Layout, Met, row_count, stepping_of, stride}
 use Rattle.rx_order.proofs.Sorted.{number_few}
-use Rattle.rx_determinize.specs.Working.{Met, IsWorking, keying}
 use Rattle.rx_determinize.proofs.AddingLaws.{is_over_full, over_new, one_more_row, working_new, keys_at, IsNew, met_of}
 use Rattle.rx_determinize.proofs.AddingLaws.{met_with, keys_kept, same_met, new_key}
 use Rattle.rx_determinize.proofs.states.States.add.Goals.{Then-not-interned, Else-not-interned, After-label}

@@ -1,6 +1,6 @@
 use Rattle.rx_spec.proofs.Prelude.{◌≡◌, ◌≤◌, [], All, length, get_or, ap, sym, ◌∙◌, subst, eqb-true, eq-eqb, true≢false}
 use Rattle.rx_spec.proofs.Prelude.{nil_from_length, All-get_or, get_or_from_slice_get, max_id}
-use Rattle.rx_stepper.specs.Keys.{label_of}
+use Rattle.rx_determinize.proofs.Prelude.{label_of}
 use Rattle.rx_determinize.proofs.MatchingLaws.{labels_at, labels_pass}
 use Rattle.rx_determinize.proofs.states.States.add_label.Goals as goal
 

@@ -1,5 +1,5 @@
 use Rattle.rx_spec.proofs.Prelude.{take}
-use Rattle.rx_determinize.specs.Matching.{AreLabels}
+use Rattle.rx_determinize.proofs.Prelude.{AreLabels}
 use Rattle.rx_determinize.proofs.states.States.matches.Given as goal
 
 -- the labels of the keys so far

@@ -1,7 +1,6 @@
 use Rattle.rx_spec.proofs.Prelude.{arith, ◌∙◌, common_steps}
 use Rattle.rx_expr.proofs.Edges.{nothing-read_as, begins-empty, begins-class, begins-look, begins-concat}
 use Rattle.rx_expr.proofs.Edges.{begins-concat_reverse, begins-alternate, begins-repeat_none, begins-repeat_some}
-use Rattle.rx_expr.proofs.Edges.{and_then, and_else}
 use Rattle.rx_expr.proofs.thompson.edge.+begins.Goals as goal
 
 pub begins_with_edge-returns-in-Empty : goal.begins_with_edge-returns-in-Empty
@@ -22,13 +21,12 @@ begins_with_edge-returns-in-Reverse t c = grind (arith, common_steps, begins-con
 pub begins_with_edge-returns-then-begins_with_edge : goal.begins_with_edge-returns-then-begins_with_edge
 begins_with_edge-returns-then-begins_with_edge t c =
     let both = begins-alternate c.args.direction c.in-Alternate.ensures.whole in
-    let second = c.begins_with_edge-then-begins_with_edge.ensures in
-    and_then both c.begins_with_edge.ensures c.if-begins_with_edge.true second
+    grind (arith, common_steps)
 
 pub begins_with_edge-returns-else-begins_with_edge : goal.begins_with_edge-returns-else-begins_with_edge
 begins_with_edge-returns-else-begins_with_edge t c =
     let both = begins-alternate c.args.direction c.in-Alternate.ensures.whole in
-    and_else _ both c.begins_with_edge.ensures c.if-begins_with_edge.false
+    grind (arith, common_steps)
 
 pub begins_with_edge-returns-then-min-gt0 : goal.begins_with_edge-returns-then-min-gt0
 begins_with_edge-returns-then-min-gt0 t c = grind (arith, common_steps, begins-repeat_some)

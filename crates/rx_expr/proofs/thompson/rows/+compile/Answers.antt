@@ -80,10 +80,9 @@ repeat_exactly-loop-round-init t c = adds_no_copy (maker c.args.direction c.args
 
 pub repeat_exactly-compile-requires : goal.repeat_exactly-compile-requires
 repeat_exactly-compile-requires t c =
-    let each = rows_count c.args.body.now in
-    let makes = copies_make _ each (maker_makes c.args.direction c.args.body.now) c.loop-round.round in
+    let makes = copies_make _ _ (maker_makes c.args.direction c.args.body.now) c.loop-round.round in
     let n = length-counted makes c.loop-round.invariant in
-    let more = round_fits c.loop-round.round c.args.count each c.loop-round-test.true in
+    let more = round_fits c.loop-round.round c.args.count (rows_count c.args.body.now) c.loop-round-test.true in
     (omega arith, omega arith)
 
 pub repeat_exactly-loop-round-preserved : goal.repeat_exactly-loop-round-preserved
@@ -94,35 +93,22 @@ repeat_up_to-loop-round-init t c = grind (arith, common_steps, adds_no_round)
 
 pub repeat_up_to-compile-requires : goal.repeat_up_to-compile-requires
 repeat_up_to-compile-requires t c =
-    let each = rows_count c.args.body.now in
-    let makes = optional_makes c.args.greedy _ each (maker_makes c.args.direction c.args.body.now) c.loop-round.round in
+    let makes = optional_makes c.args.greedy _ _ (maker_makes c.args.direction c.args.body.now) c.loop-round.round in
     let n = length-counted makes c.loop-round.invariant in
-    let more = round_fits c.loop-round.round c.args.count (each + 1) c.loop-round-test.true in
+    let more = round_fits c.loop-round.round c.args.count (rows_count c.args.body.now + 1) c.loop-round-test.true in
     (omega arith, omega arith)
 
 pub repeat_up_to-push-requires : goal.repeat_up_to-push-requires
 repeat_up_to-push-requires t c =
-    let each = rows_count c.args.body.now in
     let makes = maker_makes c.args.direction c.args.body.now in
-    let n = length-counted (optional_makes c.args.greedy _ each makes c.loop-round.round) c.loop-round.invariant in
+    let n = length-counted (optional_makes c.args.greedy _ _ makes c.loop-round.round) c.loop-round.invariant in
     let m = length-counted makes c.in_ok-body_entry.ensures in
-    let more = round_fits c.loop-round.round c.args.count (each + 1) c.loop-round-test.true in
-    omega arith
+    omega (arith, round_fits c.loop-round.round c.args.count (rows_count c.args.body.now + 1) c.loop-round-test.true)
 
 pub repeat_up_to-loop-round-preserved : goal.repeat_up_to-loop-round-preserved
 repeat_up_to-loop-round-preserved t c =
-    let pushed = c.in_ok-entry.ensures in
-    let round = c.in_ok-body_entry.ensures in
-    adds_entered
-    pushed.id
-    (adds_optional
-    c.args.greedy
-    c.loop-round.round
-    c.choice.result
-    c.loop-round.invariant
-    round
-    c.choice.ensures
-    pushed.rows)
+    adds_entered c.in_ok-entry.ensures.id (adds_optional c.args.greedy c.loop-round.round c.choice.result
+    c.loop-round.invariant c.in_ok-body_entry.ensures c.choice.ensures c.in_ok-entry.ensures.rows)
 
 pub repeat_forever-returns : goal.repeat_forever-returns
 repeat_forever-returns t c = grind (arith, common_steps, adds_loop)

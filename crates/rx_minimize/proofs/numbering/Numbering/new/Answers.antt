@@ -1,6 +1,6 @@
 use Rattle.rx_spec.proofs.Prelude.{common_steps, ◌≡◌, ◌≢◌, ◌<◌, ◌∙◌, ℕ, List, length, slice_index, slice_set, ap, arith}
 use Rattle.rx_spec.proofs.Prelude.{Vec, Global, get_or_default, get_or-set_same}
-use Rattle.std.proofs.lemmas.List.{length-set}
+use Rattle.rx_minimize.proofs.Prelude.{length-set}
 use Rattle.rx_minimize.proofs.Renumbered.{known_named, new_named, all_named}
 use Rattle.rx_minimize.proofs.numbering.Numbering.new.Goals.{then-index-unnamed+in_ok-push, else-index-unnamed}
 use Rattle.rx_minimize.proofs.numbering.Numbering.new.Goals as goal
@@ -26,18 +26,26 @@ loop-row-preserved c =
           let in_new : block < length c.if-index-unnamed.names.items =
           omega (arith, ap length kept, length-set names block w.len.result) in
           let last : c.index-in-loop-row.result.now ≡ length c.loop-row.firsts.items =
-          c.index-in-loop-row.ensures
-          ∙ get_or_default c.if-index-unnamed.names.items block c.index-in-loop-row.result.now 0 in_new
-          ∙ ap (λ xs. slice_index xs block) kept ∙ get_or-set_same names block w.len.result 0 in_names ∙ len in
+          grind (
+            arith,
+            common_steps,
+            c.index-in-loop-row.ensures,
+            get_or_default,
+            c.if-index-unnamed.names.items,
+            c.index-in-loop-row.result.now,
+            get_or-set_same,
+            w.len.result,
+          ) in
           let unknown : slice_index names block ≡ length blocks = omega (arith, tested, w.if-index-unnamed.true) in
-          rw (
+          grind (
+            arith,
+            common_steps,
             w.names-is,
             w.firsts-is,
             w.in_ok-push.ensures.items,
             c.in_ok-push-2.ensures.items,
-            last,
-            len,
-          ) (new_named h within fits unknown)
+            new_named,
+          )
       | else-index-unnamed w ↦
           let kept : c.if-index-unnamed.names.items ≡ names = ap (λ (v : Vec ℕ Global). v.items) w.names-is in
           let in_new : block < length c.if-index-unnamed.names.items = omega (arith, ap length kept) in

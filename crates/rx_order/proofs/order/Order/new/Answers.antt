@@ -1,7 +1,6 @@
 use Rattle.rx_spec.proofs.Prelude.{◌≡◌, ◌∙◌, ⊎_elim, nat_le, slice_index, slice_set, map, refl, sym, subst, arith}
 use Rattle.rx_spec.proofs.Prelude.{rules, IsPermutation, cases_eq, get_or-set_same, get_or-set_other}
-use Rattle.std.proofs.lemmas.List.{length-set}
-use Rattle.std.proofs.lemmas.List.Sorted.{IsNonDecreasingBy-from_sort_by_key, IsPartitionPoint-from_clause}
+use Rattle.rx_order.proofs.Prelude.{IsNonDecreasingBy-from_sort_by_key, IsPartitionPoint-from_clause, length-set}
 use Rattle.rx_order.proofs.ByKind.{IsEnd, by_kind, is_end, key, ranked}
 use Rattle.rx_order.proofs.order.Order.new.Goals as goal
 

@@ -1,10 +1,7 @@
 use Rattle.rx_spec.proofs.Prelude.{rules, ◌≡◌, ◌*◌, ◌/◌, ◌^◌, ◌∙◌, ℕ, List, slice_index, ap, sym, refl, subst, true}
 use Rattle.rx_spec.proofs.Prelude.{arith, mul-div_cancel, get_or_default, pow_pos, swap}
-use Rattle.std.proofs.lemmas.List.Sorted.{non_decreasing_from_is_sorted}
+use Rattle.rx_order.proofs.Prelude.{AreMoved, AreSwapped, Layout, non_decreasing_from_is_sorted, stride}
 use Rattle.rx_order.proofs.ExchangedRows.{count_of}
-use Rattle.rx_dense.specs.Builder.{AreSwapped}
-use Rattle.rx_dense.specs.Layouts.{Layout, stride}
-use Rattle.rx_order.specs.Moved.{AreMoved}
 use Rattle.rx_order.proofs.InPlace.{each_in_place, in_place}
 use Rattle.rx_order.proofs.Moved.{IsExchange, all_ids, exchanged, id_of_place, placed, turn, unmoved}
 use Rattle.rx_order.proofs.places.Places.arrange.Goals as goal

@@ -1,6 +1,5 @@
 use Rattle.rx_spec.proofs.Prelude.{rules, ◌≡◌, ◌*◌, ◌^◌, ◌<◌, ◌∙◌, sym, arith, mod-eq_of_lt, map-range_with_len_more}
-use Rattle.rx_dense.specs.Layouts.{row_count, stride}
-use Rattle.rx_dense.proofs.Rows.{IsRowId-row}
+use Rattle.rx_order.proofs.Prelude.{IsRowId-row, row_count, stride}
 use Rattle.rx_order.proofs.places.Places.new.Goals as goal
 
 pub loop-row-preserved : goal.loop-row-preserved

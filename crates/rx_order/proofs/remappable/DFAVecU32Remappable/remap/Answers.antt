@@ -1,5 +1,5 @@
 use Rattle.rx_spec.proofs.Prelude.{arith, ◌∙◌, common_steps}
-use Rattle.rx_dense.proofs.Rows.{IsId-row_id}
+use Rattle.rx_order.proofs.Prelude.{IsId-row_id}
 use Rattle.rx_order.proofs.RowLists.{id_in_words, row_lists_count, rows_renamed}
 use Rattle.rx_order.proofs.remappable.DFAVecU32Remappable.remap.Goals as goal
 

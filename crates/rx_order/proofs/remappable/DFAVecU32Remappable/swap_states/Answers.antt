@@ -1,5 +1,5 @@
 use Rattle.rx_spec.proofs.Prelude.{rules}
-use Rattle.rx_dense.proofs.Rows.{IsId-row_id}
+use Rattle.rx_order.proofs.Prelude.{IsId-row_id}
 use Rattle.rx_order.proofs.RowLists.{id_in_words, rows_swapped}
 use Rattle.rx_order.proofs.remappable.DFAVecU32Remappable.swap_states.Goals as goal
 

@@ -1,5 +1,5 @@
 use Rattle.rx_spec.proofs.Prelude.{◌≡◌, ◌<◌, length, sym, ◌∙◌, arith, pow_pos}
-use Rattle.std.proofs.Math.Nat.{le-mul_of_pos_right}
+use Rattle.rx_order.proofs.Prelude.{le-mul_of_pos_right}
 use Rattle.rx_order.proofs.Renamed.{unmoved_arrangement, unmoved_fits, unmoved_rearranged}
 use Rattle.rx_order.proofs.ExchangedRows.{range_more}
 use Rattle.rx_order.proofs.remapper.Remapper.new.Goals as goal

@@ -1,5 +1,5 @@
 use Rattle.rx_spec.proofs.Prelude.{rules, ◌≡◌, ◌*◌, ◌^◌, ◌<◌, length, ◌∙◌, ap, subst, arith, common_steps, mod-eq_of_lt}
-use Rattle.rx_order.specs.Renaming.{IsArrangement}
+use Rattle.rx_order.proofs.Prelude.{IsArrangement}
 use Rattle.rx_order.proofs.ExchangedRows.{row_below}
 use Rattle.rx_order.proofs.NewIds.{AreNoted, are_ids, looked_up, none_noted, one_noted}
 use Rattle.rx_order.proofs.Renamed.{renamed}

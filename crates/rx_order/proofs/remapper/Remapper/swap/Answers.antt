@@ -1,6 +1,5 @@
 use Rattle.rx_spec.proofs.Prelude.{arith, ◌≡◌, ◌<◌, ◌/◌, ◌^◌, length, sym, ◌∙◌, ap, subst, common_steps}
-use Rattle.rx_order.specs.Transitions.{with_swapped}
-use Rattle.rx_order.specs.Renaming.{Arrangement, IsRearranged}
+use Rattle.rx_order.proofs.Prelude.{Arrangement, IsRearranged, with_swapped}
 use Rattle.rx_order.proofs.Renamed.{arrangement_of_exchanged, rearranged_of_exchanged}
 use Rattle.rx_order.proofs.remapper.Remapper.swap.Goals as goal
 

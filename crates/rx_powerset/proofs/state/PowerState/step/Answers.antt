@@ -1,4 +1,4 @@
-use Rattle.rx_spec.proofs.Prelude.{ap, ◌∙◌, arith, length, unit_facts, state_at, cut}
+use Rattle.rx_spec.proofs.Prelude.{ap, ◌∙◌, arith, unit_facts, state_at, cut}
 use Rattle.rx_base.specs.Unit.{unit_number}
 use Rattle.rx_expr.specs.Nfa.{meaning}
 use Rattle.rx_powerset.specs.PowerState.{state_of}
@@ -25,4 +25,4 @@ returns c =
 pub at-requires : goal.at-requires
 at-requires c =
     let told = few_told c.args.kind (meaning c.args.nfa.now).rows _ c.cut-going.ensures c.in_ok-label.ensures in
-    omega (arith, told, ap length c.deref-2.ensures.value, c.in_ok-settled.ensures.bound)
+    omega (arith, c.in_ok-settled.ensures.bound)

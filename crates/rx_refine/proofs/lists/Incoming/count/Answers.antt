@@ -1,4 +1,4 @@
-use Rattle.std.proofs.Common.{◌<◌, subst, sym}
+use Rattle.rx_refine.proofs.Prelude.{subst, sym, ◌<◌}
 use Rattle.rx_refine.proofs.TableColumns.{group_of_row}
 use Rattle.rx_refine.proofs.lists.Incoming.count.Goals as goal
 

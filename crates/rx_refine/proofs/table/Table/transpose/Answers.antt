@@ -1,4 +1,4 @@
-use Rattle.std.proofs.Common.{arith}
+use Rattle.rx_refine.proofs.Prelude.{arith}
 use Rattle.rx_refine.proofs.TableColumns.{AreTransposed-set, AreTransposed-all}
 use Rattle.rx_refine.proofs.table.Table.transpose.Goals as goal
 

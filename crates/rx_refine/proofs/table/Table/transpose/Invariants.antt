@@ -1,4 +1,4 @@
-use Rattle.std.proofs.Common.{◌+◌, ◌*◌}
+use Rattle.rx_refine.proofs.Prelude.{◌*◌, ◌+◌}
 use Rattle.rx_refine.proofs.TableColumns.{AreTransposed}
 use Rattle.rx_refine.proofs.table.Table.transpose.Given as goal
 

@@ -1,6 +1,7 @@
-use Rattle.rx_sparse.proofs.RowPlaces.{start_len_is}
 use Rattle.rx_sparse.proofs.dfa.DFA.start_len.Goals as goal
+use Rattle.rx_sparse.proofs.RowPlaces.{starts_count}
+use Rattle.rx_spec.proofs.Prelude.{sym}
 
 pub returns-clause-value : goal.returns-clause-value
 returns-clause-value g c =
-    rw (← c.self.view_is, c.bytes.ensures) (start_len_is c.self.inside.parts _ _ c.self.invariant)
+    rw (← c.self.view_is, c.bytes.ensures) (sym (starts_count c.self.inside.parts _ _ c.self.invariant))

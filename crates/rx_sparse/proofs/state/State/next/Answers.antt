@@ -1,9 +1,9 @@
 use Rattle.rx_spec.proofs.Prelude.{arith, ◌-◌, common_steps}
-use Rattle.rx_sparse.proofs.DecodedRows.{next-found, next-none, next-passed, ranges-first}
+use Rattle.rx_sparse.proofs.DecodedRows.{next-found, next-none, next-passed}
 use Rattle.rx_sparse.proofs.state.State.next.Goals as goal
 
 pub loop-i-init : goal.loop-i-init
-loop-i-init c = grind (arith, common_steps, ranges-first)
+loop-i-init c = grind (arith, common_steps)
 
 pub returns-then-has_class : goal.returns-then-has_class
 returns-then-has_class c = grind (arith, common_steps, next-found)

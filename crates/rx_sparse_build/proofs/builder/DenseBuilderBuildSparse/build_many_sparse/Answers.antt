@@ -14,10 +14,9 @@ returns-clause-ok c =
 pub returns-clause-fits : goal.returns-clause-fits
 returns-clause-fits c =
     let both = both_of c.args.self.now in
-    let are = c.in_ok-table.ensures.fits in
-    on_ok_weaker c.made_sparse.result (λ build. record { nfa = are.nfa; build = build })
+    on_ok_weaker c.made_sparse.result (λ build. record { nfa = c.in_ok-table.ensures.fits.nfa; build = build })
     (c.made_sparse.ensures.fits (settled both.dense) (wanted_nfa both.thompson c.args.exprs.now)
-    c.in_ok-table.ensures.ok are.build)
+    c.in_ok-table.ensures.ok c.in_ok-table.ensures.fits.build)
 
 pub returns-clause-err : goal.returns-clause-err
 returns-clause-err c =

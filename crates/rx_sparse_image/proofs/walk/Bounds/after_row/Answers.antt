@@ -1,4 +1,4 @@
-use Rattle.rx_spec.proofs.Prelude.{◌≡◌, Ok, rules, AreBytes}
+use Rattle.rx_spec.proofs.Prelude.{rules, AreBytes}
 use Rattle.rx_sparse.specs.Rows.{row_in}
 use Rattle.rx_sparse_image.specs.Walks.{row_at}
 use Rattle.rx_sparse_image.proofs.DecodedBytes.{are_bytes}
@@ -10,7 +10,5 @@ unfolding row_at
 returns-clause-rest c =
     let b = c.args.self.now in
     let bytes = c.args.bytes.now in
-    let rest = c.in_ok-rest-3.rest.now in
-    let read : row_at b c.args.at bytes ≡ Ok (row_in b.order bytes, rest) = search rules in
     let are : AreBytes bytes = are_bytes bytes c.type_inv.bytes in
-    (passed_row b c.args.at bytes (row_in b.order bytes) rest are read).behind
+    (passed_row b c.args.at bytes (row_in b.order bytes) c.in_ok-rest-3.rest.now are (search rules)).behind

@@ -1,5 +1,4 @@
-use Rattle.rx_spec.proofs.Prelude.{common_steps, ◌≡◌, ◌-◌, ◌*◌, ◌==◌, ◌&&◌, false, slice_index, sym, ap, ◌∙◌, arith}
-use Rattle.rx_spec.proofs.Prelude.{rules}
+use Rattle.rx_spec.proofs.Prelude.{common_steps, ◌-◌, ◌*◌, ◌==◌, ◌&&◌, slice_index, sym, ap, ◌∙◌, arith, rules}
 use Rattle.rx_dense_image.proofs.EachBelow.{all_of, not_all}
 use Rattle.rx_sparse_image.specs.Walks.{is_range_at}
 use Rattle.rx_sparse_image.proofs.walk.Bounds.are_ends.Goals as goal
@@ -10,21 +9,18 @@ loop-i-preserved c = grind (arith, common_steps)
 pub returns-then-not-is_range_at : goal.returns-then-not-is_range_at
 returns-then-not-is_range_at c =
     let ends = c.args.ends.now in
-    let count = c.args.count in
-    let stands : c.is_range_at.result ≡ false = search rules in
     sym (
-    ap (λ b. b && (slice_index ends (2 * count - 2) == 0) && (slice_index ends (2 * count - 1) == 0))
-    (not_all (count - 1) (is_range_at c.args.self.now.last_class ends) c.loop-i.i (omega arith)
-    (sym c.is_range_at.ensures ∙ stands))
+    ap (λ b. b && (slice_index ends (2 * c.args.count - 2) == 0) && (slice_index ends (2 * c.args.count - 1) == 0))
+    (not_all (c.args.count - 1) (is_range_at c.args.self.now.last_class ends) c.loop-i.i (omega arith)
+    (sym c.is_range_at.ensures ∙ (search rules)))
     )
 
 pub returns : goal.returns
 returns c =
     let ends = c.args.ends.now in
-    let count = c.args.count in
     c.is_end_mark.ensures
     ∙ sym (
-    ap (λ b. b && (slice_index ends (2 * count - 2) == 0) && (slice_index ends (2 * count - 1) == 0))
-    (all_of (count - 1) (is_range_at c.args.self.now.last_class ends)
+    ap (λ b. b && (slice_index ends (2 * c.args.count - 2) == 0) && (slice_index ends (2 * c.args.count - 1) == 0))
+    (all_of (c.args.count - 1) (is_range_at c.args.self.now.last_class ends)
     (λ k lt. c.loop-i.invariant k (omega arith)))
     )

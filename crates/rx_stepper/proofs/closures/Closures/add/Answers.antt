@@ -1,7 +1,5 @@
 use Rattle.rx_spec.proofs.Prelude.{common_steps, ap, ◌∙◌, ◌++◌, arith, flat_map, closure, fresh}
-use Rattle.rx_expr.specs.Nfa.{meaning}
-use Rattle.rx_expr.specs.declared.thompson.nfa.NFA.{NFA}
-use Rattle.rx_stepper.specs.ThinRows.{passing_of}
+use Rattle.rx_stepper.proofs.Prelude.{NFA, meaning, passing_of}
 use Rattle.rx_stepper.proofs.StampedSearch.{itself_new, itself_again, next_given, all_given, count_new, count_old}
 use Rattle.rx_stepper.proofs.closures.Closures.add.Goals as goal
 use Rattle.rx_stepper.proofs.closures.Closures.add.Goals.{then-stops+then-is_first, then-stops+else-is_first}

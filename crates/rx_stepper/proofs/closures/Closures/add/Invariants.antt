@@ -1,7 +1,5 @@
 use Rattle.rx_spec.proofs.Prelude.{vec_capacity, ◌≡◌, ◌≤◌, ◌++◌, [], length, drop, flat_map, closure, fresh}
-use Rattle.rx_expr.specs.Nfa.{meaning}
-use Rattle.rx_stepper.specs.Searches.{IsSearched}
-use Rattle.rx_stepper.specs.ThinRows.{passing_of}
+use Rattle.rx_stepper.proofs.Prelude.{IsSearched, meaning, passing_of}
 use Rattle.rx_stepper.proofs.StampedSearch.{Leaves}
 use Rattle.rx_stepper.proofs.closures.Closures.add.Given as goal
 

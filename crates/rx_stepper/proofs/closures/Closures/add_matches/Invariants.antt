@@ -1,6 +1,5 @@
 use Rattle.rx_spec.proofs.Prelude.{◌≡◌, ◌++◌, drop}
-use Rattle.rx_expr.specs.Nfa.{meaning}
-use Rattle.rx_stepper.specs.Steps.{matches_of}
+use Rattle.rx_stepper.proofs.Prelude.{matches_of, meaning}
 use Rattle.rx_stepper.proofs.closures.Closures.add_matches.Given as goal
 
 -- the matches so far, and those of the rows that are left

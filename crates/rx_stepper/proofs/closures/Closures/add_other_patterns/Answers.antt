@@ -1,5 +1,5 @@
 use Rattle.rx_spec.proofs.Prelude.{arith, ◌∷◌, ◌+◌, drop, ap, sym, ◌∙◌, common_steps, drop_more}
-use Rattle.rx_expr.specs.Nfa.{meaning}
+use Rattle.rx_stepper.proofs.Prelude.{meaning}
 use Rattle.rx_stepper.proofs.Without.{without_new, without_nil, without_old}
 use Rattle.rx_stepper.proofs.closures.Closures.add_other_patterns.Goals as goal
 

@@ -1,7 +1,5 @@
 use Rattle.rx_spec.proofs.Prelude.{◌≡◌, ◌++◌, drop}
-use Rattle.rx_expr.specs.Nfa.{meaning}
-use Rattle.rx_stepper.specs.Leads.{without}
-use Rattle.rx_stepper.specs.Steps.{patterns_of}
+use Rattle.rx_stepper.proofs.Prelude.{meaning, patterns_of, without}
 use Rattle.rx_stepper.proofs.closures.Closures.add_other_patterns.Given as goal
 
 -- the patterns so far, and those of the rows that are left

@@ -1,5 +1,5 @@
 use Rattle.rx_spec.proofs.Prelude.{◌≡◌, ◌++◌, drop, ℕ, flat_map, row_at, pattern_of}
-use Rattle.rx_expr.specs.Nfa.{meaning}
+use Rattle.rx_stepper.proofs.Prelude.{meaning}
 use Rattle.rx_stepper.proofs.closures.Closures.add_patterns.Given as goal
 
 -- the patterns so far, and those of the rows that are left

@@ -1,5 +1,5 @@
 use Rattle.rx_spec.proofs.Prelude.{◌∙◌}
-use Rattle.rx_expr.specs.Nfa.{meaning}
+use Rattle.rx_stepper.proofs.Prelude.{meaning}
 use Rattle.rx_stepper.proofs.ThinLists.{no_looks}
 use Rattle.rx_stepper.proofs.closures.Closures.has_look.Goals as goal
 

@@ -1,7 +1,5 @@
 use Rattle.rx_spec.proofs.Prelude.{arith, rules, ◌++◌, common_steps, flat_map, id_count, closure}
-use Rattle.rx_expr.specs.Nfa.{meaning}
-use Rattle.rx_powerset.proofs.StateBounds.{few_firsts}
-use Rattle.rx_stepper.specs.ThinRows.{passing_of}
+use Rattle.rx_stepper.proofs.Prelude.{few_firsts, meaning, passing_of}
 use Rattle.rx_stepper.proofs.StampedSearch.{begun, both_given, all_met}
 use Rattle.rx_stepper.proofs.closures.Closures.list_joined.Goals as goal
 

@@ -1,14 +1,7 @@
 use Rattle.rx_spec.proofs.Prelude.{common_steps, ◌≡◌, ◌<◌, ◌++◌, List, ℕ, reverse, ◌∷◌, get_or, length, ap, arith, ◌∙◌}
 use Rattle.rx_spec.proofs.Prelude.{sym, subst, id_count, closure, fresh, row_at}
-use Rattle.rx_expr.specs.Nfa.{meaning}
-use Rattle.rx_expr.specs.declared.thompson.nfa.NFA.{NFA}
-use Rattle.rx_powerset.specs.Closures.{own_by, branches_by}
-use Rattle.rx_powerset.proofs.Closures.{graph_of, own_either}
-use Rattle.rx_powerset.proofs.StackSearch.{passed_falls, met_falls}
-use Rattle.rx_powerset.proofs.StateBounds.{few_more}
-use Rattle.rx_stepper.specs.Stamps.{is_met}
-use Rattle.rx_stepper.specs.ThinRows.{row_of_thin, passing_of}
-use Rattle.rx_stepper.specs.declared.thin_row.ThinRow.{ThinRow}
+use Rattle.rx_stepper.proofs.Prelude.{NFA, ThinRow, branches_by, few_more, graph_of, is_met, meaning, met_falls, own_by}
+use Rattle.rx_stepper.proofs.Prelude.{own_either, passed_falls, passing_of, row_of_thin}
 use Rattle.rx_stepper.proofs.StampedSearch.{searched, passed_on, met_now, hand_first, top_in_hand, none_waits}
 use Rattle.rx_stepper.proofs.StampedSearch.{count_new}
 use Rattle.rx_stepper.proofs.ThinLists.{thin_there}

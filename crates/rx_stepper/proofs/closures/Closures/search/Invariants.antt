@@ -1,12 +1,7 @@
 use Rattle.rx_spec.proofs.Prelude.{vec_capacity, ◌≡◌, ◌+◌, ◌<◌, ◌≤◌, ◌++◌, [], length, sum_by, id_count, closure, fresh}
-use Rattle.std.specs.Prelude.{IfNone}
+use Rattle.rx_stepper.proofs.Prelude.{IfNone, graph_of, in_turn, is_met, meaning, passing_of, unmet, weight_of}
 use Rattle.std.specs.List.{AllByRecursion as Every}
-use Rattle.rx_powerset.proofs.Closures.{graph_of, weight_of}
 use Rattle.rx_powerset.proofs.Search.{Searching}
-use Rattle.rx_expr.specs.Nfa.{meaning}
-use Rattle.rx_stepper.specs.Searches.{in_turn}
-use Rattle.rx_stepper.specs.Stamps.{is_met, unmet}
-use Rattle.rx_stepper.specs.ThinRows.{passing_of}
 use Rattle.rx_stepper.proofs.closures.Closures.search.Given as goal
 
 abbrev pub invariant-search : goal.invariant-search

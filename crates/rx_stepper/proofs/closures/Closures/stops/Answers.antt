@@ -1,5 +1,5 @@
 use Rattle.rx_spec.proofs.Prelude.{◌∙◌, sym}
-use Rattle.rx_expr.specs.Nfa.{meaning}
+use Rattle.rx_stepper.proofs.Prelude.{meaning}
 use Rattle.rx_stepper.proofs.StampedSearch.{itself_there}
 use Rattle.rx_stepper.proofs.ThinLists.{thin_found}
 use Rattle.rx_stepper.proofs.closures.Closures.stops.Goals as goal

@@ -1,5 +1,4 @@
-use Rattle.rx_expr.specs.Nfa.{meaning}
-use Rattle.rx_powerset.proofs.FirstMatch.{IsUncut}
+use Rattle.rx_stepper.proofs.Prelude.{IsUncut, meaning}
 use Rattle.rx_stepper.proofs.closures.Closures.to_first_match.Given as goal
 
 abbrev pub invariant-loop-i : goal.invariant-loop-i

@@ -1,5 +1,5 @@
 use Rattle.rx_spec.proofs.Prelude.{length, ap, sym, ◌∙◌, arith, length-map}
-use Rattle.rx_base.specs.Unit.{unit_number}
+use Rattle.rx_stepper.proofs.Prelude.{unit_number}
 use Rattle.rx_stepper.proofs.UnitCounts.{units_few}
 use Rattle.rx_stepper.proofs.columns.Columns.new.Goals as goal
 

@@ -1,6 +1,5 @@
 use Rattle.rx_spec.proofs.Prelude.{arith, ◌++◌, List, ℕ, map, ap₂, ◌∙◌, subst, common_steps, Facts}
-use Rattle.rx_stepper.specs.Keys.{own_of}
-use Rattle.rx_stepper.specs.Steps.{AreSteps, rows_in}
+use Rattle.rx_stepper.proofs.Prelude.{AreSteps, own_of, rows_in}
 use Rattle.rx_stepper.proofs.GroupLoop.{stand}
 use Rattle.rx_stepper.proofs.Results.{on_ok-map}
 use Rattle.rx_stepper.proofs.current.Current.begin.Goals as goal

@@ -1,8 +1,6 @@
 use Rattle.rx_spec.proofs.Prelude.{◌≡◌, ◌+◌, ◌<◌, [], ◌∷◌, ℕ, List, length, map, get_or, set, true, false, sym, subst}
 use Rattle.rx_spec.proofs.Prelude.{arith, rules, get_or-set_same, All-append, All-cons, All-nil, All, slice_index}
-use Rattle.rx_base.specs.Unit.{unit_number}
-use Rattle.rx_expr.specs.Nfa.{meaning}
-use Rattle.rx_stepper.specs.Columns.{IsGroup}
+use Rattle.rx_stepper.proofs.Prelude.{IsGroup, meaning, unit_number}
 use Rattle.rx_stepper.proofs.GroupLists.{each_push, still_marked, is_group}
 use Rattle.rx_stepper.proofs.ReadColumns.{unit_there}
 use Rattle.rx_stepper.proofs.groups.Groups.new.Goals as goal

@@ -1,7 +1,5 @@
 use Rattle.rx_spec.proofs.Prelude.{◌≡◌, ◌<◌, ℕ, length, map, get_or, true, false, All}
-use Rattle.rx_base.specs.Unit.{unit_number}
-use Rattle.rx_expr.specs.Nfa.{meaning}
-use Rattle.rx_stepper.specs.Columns.{IsGroup}
+use Rattle.rx_stepper.proofs.Prelude.{IsGroup, meaning, unit_number}
 use Rattle.rx_stepper.proofs.groups.Groups.new.Given as goal
 
 abbrev pub invariant-loop-unit : goal.invariant-loop-unit

@@ -1,9 +1,6 @@
 use Rattle.rx_spec.proofs.Prelude.{common_steps, ◌≡◌, ◌++◌, List, ℕ, true, take, drop, ap, sym, ◌∙◌, subst, arith}
 use Rattle.rx_spec.proofs.Prelude.{firsts}
-use Rattle.std.proofs.Common.{take-append-drop}
-use Rattle.lemmas_walks.proofs.Firsts.{Apart}
-use Rattle.rx_expr.specs.Nfa.{meaning}
-use Rattle.rx_stepper.specs.Leads.{IsLeast, led, written_as}
+use Rattle.rx_stepper.proofs.Prelude.{Apart, IsLeast, led, meaning, take-append-drop, written_as}
 use Rattle.rx_stepper.proofs.Decisions.{firsts_twice}
 use Rattle.rx_stepper.proofs.KeyLaws.{once_apart}
 use Rattle.rx_stepper.proofs.LeadClosing.{Starts, every_all, lead_alone, met_alike, written_led}

@@ -1,5 +1,5 @@
 use Rattle.rx_spec.proofs.Prelude.{◌≡◌, ◌≤◌, length, drop, bytes_eq}
-use Rattle.rx_stepper.specs.Leads.{without}
+use Rattle.rx_stepper.proofs.Prelude.{without}
 use Rattle.rx_stepper.proofs.lead_in.LeadIn.follows.Given as goal
 
 abbrev pub invariant-loop-row : goal.invariant-loop-row

@@ -1,6 +1,5 @@
 use Rattle.rx_spec.proofs.Prelude.{◌<◌, get_or, length, ap, sym, ◌∙◌, subst, arith}
-use Rattle.rx_stepper.specs.Places.{AreMetTo}
-use Rattle.rx_stepper.specs.Stamps.{is_met}
+use Rattle.rx_stepper.proofs.Prelude.{AreMetTo, is_met}
 use Rattle.rx_stepper.proofs.LeadPlaces.{met_all, met_more, met_to}
 use Rattle.rx_stepper.proofs.lead_in.LeadIn.met_len.Goals as goal
 

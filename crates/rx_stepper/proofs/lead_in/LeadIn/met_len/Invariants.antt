@@ -1,5 +1,5 @@
 use Rattle.rx_spec.proofs.Prelude.{◌≡◌, ◌<◌, ℕ, true, Some, slice_get}
-use Rattle.rx_stepper.specs.Stamps.{is_met}
+use Rattle.rx_stepper.proofs.Prelude.{is_met}
 use Rattle.rx_stepper.proofs.lead_in.LeadIn.met_len.Given as goal
 
 abbrev pub invariant-loop-place : goal.invariant-loop-place

@@ -1,8 +1,6 @@
 use Rattle.rx_spec.proofs.Prelude.{common_steps, ◌≡◌, ◌<◌, List, ℕ, length, ap, sym, ◌∙◌, subst, arith, firsts}
+use Rattle.rx_stepper.proofs.Prelude.{ArePlaces, NFA, meaning}
 use Rattle.std.specs.List.{AllByRecursion as Every}
-use Rattle.rx_expr.specs.Nfa.{meaning}
-use Rattle.rx_expr.specs.declared.thompson.nfa.NFA.{NFA}
-use Rattle.rx_stepper.specs.Places.{ArePlaces}
 use Rattle.rx_stepper.proofs.LeadClosing.{lead_once, lead_within}
 use Rattle.rx_stepper.proofs.lead_in.LeadIn.new.Goals as goal
 

@@ -1,5 +1,5 @@
 use Rattle.rx_spec.proofs.Prelude.{common_steps, ℕ, ◌-◌, ◌<◌, ◌≤◌, ap, subst, sym, ◌∙◌, arith, slice_index_or}
-use Rattle.rx_stepper.specs.Places.{no_place}
+use Rattle.rx_stepper.proofs.Prelude.{no_place}
 use Rattle.rx_stepper.proofs.KeyLaws.{once_apart}
 use Rattle.rx_stepper.proofs.LeadPlaces.{Trimmed, last_row, trimmed_least, trimmed_more, trimmed_none}
 use Rattle.rx_stepper.proofs.lead_in.LeadIn.own_len.Goals as goal

@@ -1,6 +1,5 @@
 use Rattle.rx_spec.proofs.Prelude.{ℕ, length, slice_index, ap, sym, ◌∙◌, arith, get_or_default}
-use Rattle.rx_base.specs.FactBits.{bit}
-use Rattle.rx_stepper.specs.Leads.{rows_by}
+use Rattle.rx_stepper.proofs.Prelude.{bit, rows_by}
 use Rattle.rx_stepper.proofs.KeyLaws.{once_apart}
 use Rattle.rx_stepper.proofs.LeadSplits.{shared_all, shared_left, shared_more}
 use Rattle.rx_stepper.proofs.lead_in.LeadIn.rows_len.Goals as goal

@@ -1,6 +1,6 @@
 use Rattle.rx_spec.proofs.Prelude.{◌≡◌, ◌+◌, length, take, sum_by}
+use Rattle.rx_stepper.proofs.Prelude.{bit}
 use Rattle.rx_stepper.proofs.Members.{was}
-use Rattle.rx_base.specs.FactBits.{bit}
 use Rattle.rx_stepper.proofs.lead_in.LeadIn.rows_len.Given as goal
 
 -- the rows of the lead-in that were not met among the own ones so far

@@ -1,6 +1,6 @@
 use Rattle.rx_spec.proofs.Prelude.{arith, ◌≡◌, ◌-◌, List, ℕ, [], true, length, sym, ◌∙◌, subst, common_steps, Some}
 use Rattle.rx_spec.proofs.Prelude.{slice_get}
-use Rattle.rx_stepper.specs.Stamps.{is_met}
+use Rattle.rx_stepper.proofs.Prelude.{is_met}
 use Rattle.rx_stepper.proofs.LeadPlaces.{at_in}
 use Rattle.rx_stepper.proofs.LeadSplits.{every_in}
 use Rattle.rx_stepper.proofs.Members.{was}

@@ -1,9 +1,6 @@
 use Rattle.rx_spec.proofs.Prelude.{arith, ◌==◌, ◌&&◌, not, if◌then◌else◌, List, ℕ, ◌∷◌, ◌++◌, length, ap, ap₂, sym, ◌∙◌}
 use Rattle.rx_spec.proofs.Prelude.{common_steps, recursion_from_All, list_any, is_look_row, row_at}
-use Rattle.rx_base.specs.FactBits.{bit, facts_with}
-use Rattle.rx_expr.specs.Nfa.{meaning}
-use Rattle.rx_expr.specs.declared.thompson.nfa.NFA.{NFA}
-use Rattle.rx_stepper.specs.Leads.{rows_by}
+use Rattle.rx_stepper.proofs.Prelude.{NFA, bit, facts_with, meaning, rows_by}
 use Rattle.rx_stepper.proofs.MadeKeys.{WritesRows, dead_made, key_made}
 use Rattle.rx_stepper.proofs.lead_in.LeadIn.write_key.Goals as goal
 use Rattle.rx_stepper.proofs.lead_in.LeadIn.write_key.Goals.{After-close-is_led}

@@ -1,7 +1,6 @@
 use Rattle.rx_spec.proofs.Prelude.{◌≡◌, [], replicate}
+use Rattle.rx_stepper.proofs.Prelude.{IsListed, ListedSet}
 use Rattle.std.proofs.lemmas.List.Elements.{All-same, All-replicate}
-use Rattle.rx_stepper.specs.ListedSets.{IsListed}
-use Rattle.rx_stepper.specs.declared.listed_sets.ListedSet.{ListedSet}
 use Rattle.rx_stepper.proofs.ListedColumns.{none_listed}
 use Rattle.rx_stepper.proofs.listed_sets.ListedSets.new.Goals as goal
 

@@ -1,7 +1,5 @@
 use Rattle.rx_spec.proofs.Prelude.{◌<◌, length, map, arith, sym, ap, subst, All, length-map, All-nil}
-use Rattle.rx_base.specs.Unit.{unit_number}
-use Rattle.rx_expr.specs.Nfa.{row_of}
-use Rattle.rx_stepper.specs.ListedSets.{AreListed}
+use Rattle.rx_stepper.proofs.Prelude.{AreListed, row_of, unit_number}
 use Rattle.rx_stepper.proofs.ReadColumns.{reads_none, reads_more, reads_all, are_spans}
 use Rattle.rx_stepper.proofs.ThinLists.{row_there}
 use Rattle.rx_stepper.proofs.reading.Reading.new.Goals as goal

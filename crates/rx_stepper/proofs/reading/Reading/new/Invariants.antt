@@ -1,7 +1,5 @@
 use Rattle.rx_spec.proofs.Prelude.{◌<◌, length, map, All}
-use Rattle.rx_base.specs.Unit.{unit_number}
-use Rattle.rx_expr.specs.Nfa.{meaning}
-use Rattle.rx_stepper.specs.ListedSets.{AreListed}
+use Rattle.rx_stepper.proofs.Prelude.{AreListed, meaning, unit_number}
 use Rattle.rx_stepper.proofs.ReadColumns.{ReadsBelow}
 use Rattle.rx_stepper.proofs.reading.Reading.new.Given as goal
 

@@ -1,10 +1,6 @@
 use Rattle.rx_spec.proofs.Prelude.{common_steps, ◌≡◌, ◌<◌, ◌++◌, ◌⊎◌, List, ℕ, [], false, None, Some, length, refl, ap}
 use Rattle.rx_spec.proofs.Prelude.{ap₂, sym, ◌∙◌, subst, arith, IfSome, slice_index}
-use Rattle.rx_stepper.specs.Gathering.{Follows, matches_in, targets_in}
-use Rattle.rx_stepper.specs.Steppers.{stepping_of}
-use Rattle.rx_stepper.specs.Steps.{goes_on}
-use Rattle.rx_stepper.specs.Units.{units_of}
-use Rattle.rx_stepper.specs.declared.lead_steps.LeadSteps.{LeadSteps}
+use Rattle.rx_stepper.proofs.Prelude.{Follows, LeadSteps, goes_on, matches_in, stepping_of, targets_in, units_of}
 use Rattle.rx_stepper.proofs.ColumnSteps.{columns_alike, led_within}
 use Rattle.rx_stepper.proofs.EmptyLists.{list_there}
 use Rattle.rx_stepper.proofs.stepper.Stepper.are_alike.Goals.{Else-not-are_equal, In-Some, Start}

@@ -1,11 +1,5 @@
 use Rattle.rx_spec.proofs.Prelude.{common_steps, ◌≡◌, true, ap, sym, ◌∙◌, subst, arith, Nfa}
-use Rattle.rx_expr.specs.Nfa.{meaning}
-use Rattle.rx_expr.specs.declared.thompson.nfa.NFA.{NFA}
-use Rattle.rx_stepper.specs.Fits.{table_of}
-use Rattle.rx_stepper.specs.Keys.{are_closed, own_of}
-use Rattle.rx_stepper.specs.Leads.{lead_of}
-use Rattle.rx_stepper.specs.Steppers.{stepping_of}
-use Rattle.rx_stepper.specs.Units.{units_of}
+use Rattle.rx_stepper.proofs.Prelude.{NFA, are_closed, lead_of, meaning, own_of, stepping_of, table_of, units_of}
 use Rattle.rx_stepper.proofs.KeyLaws.{context_small, key_len, label_number, own_closed, rows_closed, spells}
 use Rattle.rx_stepper.proofs.StepperParts.{begun_current, dead_current}
 use Rattle.rx_stepper.proofs.stepper.Stepper.begin.Goals as goal

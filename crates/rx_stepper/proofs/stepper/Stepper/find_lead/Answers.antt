@@ -1,13 +1,6 @@
 use Rattle.rx_spec.proofs.Prelude.{◌≡◌, ◌<◌, List, ℕ, true, length, map, set, ap, sym, ◌∙◌, subst, arith, Facts}
-use Rattle.rx_base.specs.FactBits.{bits_of}
-use Rattle.rx_expr.specs.Nfa.{meaning}
-use Rattle.rx_expr.specs.declared.thompson.nfa.NFA.{NFA}
-use Rattle.rx_stepper.specs.Fits.{Fits, FitsCurrent, FitsLead, table_of}
-use Rattle.rx_stepper.specs.Keys.{are_closed}
-use Rattle.rx_stepper.specs.Steppers.{stepping_of}
-use Rattle.rx_stepper.specs.Steps.{AreSteps, rows_in}
-use Rattle.rx_stepper.specs.Units.{units_of}
-use Rattle.rx_stepper.specs.declared.lead_steps.LeadSteps.{LeadSteps}
+use Rattle.rx_stepper.proofs.Prelude.{AreSteps, Fits, FitsCurrent, FitsLead, LeadSteps, NFA, are_closed, bits_of}
+use Rattle.rx_stepper.proofs.Prelude.{meaning, rows_in, stepping_of, table_of, units_of}
 use Rattle.rx_stepper.proofs.GroupLoop.{stand}
 use Rattle.rx_stepper.proofs.LeadClosing.{lead_closed}
 use Rattle.rx_stepper.proofs.LeadPlaces.{at_or}

@@ -1,7 +1,5 @@
 use Rattle.rx_spec.proofs.Prelude.{◌≡◌, ◌<◌, [], length, sym, ap, ◌∙◌, arith, not-false, slice_index}
-use Rattle.rx_stepper.specs.Gathering.{matches_in, targets_in}
-use Rattle.rx_stepper.specs.Steppers.{stepping_of}
-use Rattle.rx_stepper.specs.Units.{units_of}
+use Rattle.rx_stepper.proofs.Prelude.{matches_in, stepping_of, targets_in, units_of}
 use Rattle.rx_stepper.proofs.EmptyLists.{empty_there}
 use Rattle.rx_stepper.proofs.LoneSteps.{alone}
 use Rattle.rx_stepper.proofs.stepper.Stepper.has_own.Goals as goal

@@ -1,10 +1,5 @@
 use Rattle.rx_spec.proofs.Prelude.{common_steps, rules, ◌≡◌, length, refl, sym, ◌∙◌, subst, arith, All}
-use Rattle.rx_expr.specs.Nfa.{meaning}
-use Rattle.rx_expr.specs.declared.thompson.nfa.NFA.{NFA}
-use Rattle.rx_stepper.specs.Fits.{Fits, table_of}
-use Rattle.rx_stepper.specs.LeadIns.{IsLeadIn}
-use Rattle.rx_stepper.specs.Leads.{lead_of}
-use Rattle.rx_stepper.specs.Steppers.{stepping_of}
+use Rattle.rx_stepper.proofs.Prelude.{Fits, IsLeadIn, NFA, lead_of, meaning, stepping_of, table_of}
 use Rattle.rx_stepper.proofs.KeyLaws.{ids_spelled, one_key_each, spells}
 use Rattle.rx_stepper.proofs.StepperParts.{dead_current, no_leads}
 use Rattle.rx_stepper.proofs.UnitCounts.{units_counted}

@@ -1,14 +1,7 @@
 use Rattle.rx_spec.proofs.Prelude.{◌<◌, ◌^◌, ◌++◌, ℕ, List, length, ap, sym, ◌∙◌, subst, arith, option_copied, IfSome}
 use Rattle.rx_spec.proofs.Prelude.{is_dead_state}
-use Rattle.rx_base.specs.FactBits.{bits_of, facts_with}
-use Rattle.rx_expr.specs.Nfa.{meaning}
-use Rattle.rx_expr.specs.declared.thompson.nfa.NFA.{NFA}
-use Rattle.rx_stepper.specs.Fits.{Fits, FitsCurrent, FitsLead, Table, table_of}
-use Rattle.rx_stepper.specs.Gathering.{IsLeadOf}
-use Rattle.rx_stepper.specs.Steppers.{stepping_of}
-use Rattle.rx_stepper.specs.Steps.{made}
-use Rattle.rx_stepper.specs.Units.{units_of}
-use Rattle.rx_stepper.specs.declared.lead_steps.LeadSteps.{LeadSteps}
+use Rattle.rx_stepper.proofs.Prelude.{Fits, FitsCurrent, FitsLead, IsLeadOf, LeadSteps, NFA, Table, bits_of, facts_with}
+use Rattle.rx_stepper.proofs.Prelude.{made, meaning, stepping_of, table_of, units_of}
 use Rattle.rx_stepper.proofs.ColumnSteps.{IsGathered, gathered_few, gathered_made, lead_column, led_within}
 use Rattle.rx_stepper.proofs.Results.{if_ok-map, match_bool-map}
 use Rattle.rx_stepper.proofs.stepper.Stepper.next.Goals.{After-targets, Start}

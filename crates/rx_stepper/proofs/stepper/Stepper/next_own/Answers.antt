@@ -1,6 +1,5 @@
 use Rattle.rx_spec.proofs.Prelude.{◌≡◌, ◌<◌, ◌≤◌, sym, subst, arith, ⊎_elim, cases_lt}
-use Rattle.rx_stepper.specs.Stepping.{IsAlone}
-use Rattle.rx_stepper.specs.Steppers.{stepping_of}
+use Rattle.rx_stepper.proofs.Prelude.{IsAlone, stepping_of}
 use Rattle.rx_stepper.proofs.stepper.Stepper.next_own.Goals as goal
 
 pub loop-column-init : goal.loop-column-init

@@ -1,6 +1,5 @@
 use Rattle.rx_spec.proofs.Prelude.{ℕ, ◌<◌, ◌≤◌}
-use Rattle.rx_stepper.specs.Stepping.{IsAlone}
-use Rattle.rx_stepper.specs.Steppers.{stepping_of}
+use Rattle.rx_stepper.proofs.Prelude.{IsAlone, stepping_of}
 use Rattle.rx_stepper.proofs.stepper.Stepper.next_own.Given as goal
 
 -- by the columns so far no rows of its own go on

@@ -1,9 +1,6 @@
 use Rattle.rx_spec.proofs.Prelude.{rules, ◌≡◌, ◌≤◌, ◌<◌, ◌^◌, Bool, true, List, ℕ, length, ap, ap₂, sym, subst, arith}
 use Rattle.rx_spec.proofs.Prelude.{◌∙◌, id_count, firsts}
-use Rattle.rx_expr.specs.Nfa.{meaning}
-use Rattle.rx_stepper.specs.Keys.{own_of, spelled}
-use Rattle.rx_stepper.specs.Leads.{lead_of, rows_by}
-use Rattle.rx_stepper.specs.Steppers.{stepping_of}
+use Rattle.rx_stepper.proofs.Prelude.{lead_of, meaning, own_of, rows_by, spelled, stepping_of}
 use Rattle.rx_stepper.specs.declared.stepper.Stepper.{Stepper}
 use Rattle.rx_stepper.proofs.KeyLaws.{Spells, key_len, label_number, own_closed, own_few, rows_few, spells}
 use Rattle.rx_stepper.proofs.stepper.Stepper.size.Goals as goal

@@ -1,5 +1,5 @@
 use Rattle.rx_spec.proofs.Prelude.{rules, [], arith, common_steps}
-use Rattle.rx_stepper.specs.Steppers.{stepping_of}
+use Rattle.rx_stepper.proofs.Prelude.{stepping_of}
 use Rattle.rx_stepper.proofs.stepper.Stepper.start.Goals as goal
 
 pub write_key-requires-clause-asked : goal.write_key-requires-clause-asked

@@ -1,9 +1,6 @@
 use Rattle.rx_spec.proofs.Prelude.{rules, ◌≡◌, ◌++◌, ℕ, length, map, Some, ap, ap₂, ◌∙◌, arith, common_steps}
 use Rattle.rx_spec.proofs.Prelude.{slice_index, flat_map, row_at, target}
-use Rattle.rx_base.specs.FactBits.{facts_with}
-use Rattle.rx_expr.specs.Nfa.{meaning}
-use Rattle.rx_stepper.specs.Columns.{takes, only_if, list_at}
-use Rattle.rx_stepper.specs.Steps.{going_by}
+use Rattle.rx_stepper.proofs.Prelude.{facts_with, going_by, list_at, meaning, only_if, takes}
 use Rattle.rx_stepper.proofs.EmptyLists.{set_here, set_other, written_back}
 use Rattle.rx_stepper.proofs.Results.{on_ok-map}
 use Rattle.rx_stepper.proofs.StepLaws.{few_told}

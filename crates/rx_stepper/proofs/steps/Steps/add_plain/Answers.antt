@@ -1,7 +1,5 @@
 use Rattle.rx_spec.proofs.Prelude.{common_steps, ℕ, map, ap, sym, ◌∙◌, arith, slice_index, row_at, target}
-use Rattle.rx_expr.specs.Nfa.{meaning}
-use Rattle.rx_stepper.specs.Columns.{list_at}
-use Rattle.rx_stepper.specs.Steps.{matches_of}
+use Rattle.rx_stepper.proofs.Prelude.{list_at, matches_of, meaning}
 use Rattle.rx_stepper.proofs.EmptyLists.{set_here, set_other, list_there, written_more}
 use Rattle.rx_stepper.proofs.GroupLoop.{matches_more, none_match}
 use Rattle.rx_stepper.proofs.steps.Steps.add_plain.Goals as goal

@@ -1,5 +1,4 @@
-use Rattle.rx_expr.specs.Nfa.{meaning}
-use Rattle.rx_stepper.specs.Steps.{matches_of}
+use Rattle.rx_stepper.proofs.Prelude.{matches_of, meaning}
 use Rattle.rx_stepper.proofs.GroupLoop.{PlainBetween}
 use Rattle.rx_stepper.proofs.steps.Steps.add_plain.Given as goal
 

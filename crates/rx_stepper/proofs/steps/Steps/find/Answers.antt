@@ -1,11 +1,6 @@
 use Rattle.rx_spec.proofs.Prelude.{common_steps, vec_capacity, slice_index, ℕ, ◌+◌, ◌++◌, List, length, map, refl, ap}
 use Rattle.rx_spec.proofs.Prelude.{sym, ◌∙◌, subst, arith, flat_map, Tested, cut, holds_before, row_at, target}
-use Rattle.rx_base.specs.FactBits.{facts_with}
-use Rattle.rx_expr.specs.Nfa.{meaning}
-use Rattle.rx_expr.specs.declared.thompson.nfa.NFA.{NFA}
-use Rattle.rx_stepper.specs.Columns.{AreGroups, Reads}
-use Rattle.rx_stepper.specs.declared.steps.Steps.{Steps}
-use Rattle.rx_stepper.specs.Steps.{going_by, rows_in}
+use Rattle.rx_stepper.proofs.Prelude.{AreGroups, NFA, Reads, Steps, facts_with, going_by, meaning, rows_in}
 use Rattle.rx_stepper.proofs.Decisions.{closed_plain}
 use Rattle.rx_stepper.proofs.KeyLaws.{closed_few, rows_tested}
 use Rattle.rx_stepper.proofs.Results.{on_ok-both}

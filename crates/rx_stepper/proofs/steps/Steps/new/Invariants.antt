@@ -1,5 +1,5 @@
 use Rattle.rx_spec.proofs.Prelude.{◌≡◌, length, map}
-use Rattle.rx_stepper.specs.Steps.{AreEmpty}
+use Rattle.rx_stepper.proofs.Prelude.{AreEmpty}
 use Rattle.rx_stepper.proofs.steps.Steps.new.Given as goal
 
 abbrev pub invariant-loop-group : goal.invariant-loop-group

@@ -1,18 +1,17 @@
 use Rattle.rx_spec.proofs.Prelude.{common_steps, refl, arith, ◌≡◌, slice_index, row_of}
 use Rattle.rx_search.specs.Labels.{patterns_of}
 use Rattle.rx_search.proofs.Cursors.{held_by, held_row, at_same, row_at}
-use Rattle.rx_search.proofs.Halves.{some_pattern}
 use Rattle.rx_search.proofs.Walks.{bytes_of}
 use Rattle.rx_stream.specs.Pieces.{HaltsAt}
 use Rattle.rx_stream.specs.declared.walk.Halt.{Halt}
-use Rattle.rx_stream.proofs.Feed.{open_stage, fed_pattern, fed_match, fed_quit, fed_all}
+use Rattle.rx_stream.proofs.Feed.{open_stage, fed_match, fed_quit, fed_all}
 use Rattle.rx_stream.proofs.searcher.StreamSearcher.feed.Goals as goal
 
 pub match_pattern-requires-clause-within : goal.match_pattern-requires-clause-within
-match_pattern-requires-clause-within g c = grind (arith, common_steps, held_by, some_pattern, held_row)
+match_pattern-requires-clause-within g c = grind (arith, common_steps, held_by)
 
 pub returns-in-Some-clause-fed : goal.returns-in-Some-clause-fed
-returns-in-Some-clause-fed g c = grind (arith, common_steps, open_stage, fed_pattern)
+returns-in-Some-clause-fed g c = grind (arith, common_steps)
 
 pub returns-in-Match-clause-fed : goal.returns-in-Match-clause-fed
 returns-in-Match-clause-fed g c =

@@ -1,5 +1,4 @@
-use Rattle.rx_spec.proofs.Prelude.{common_steps, ◌∙◌, ◌<◌, ℕ, List, [], length, get_or, sym, ap, arith}
-use Rattle.rx_dense.specs.Accels.{accel_lists}
+use Rattle.rx_spec.proofs.Prelude.{common_steps, ◌∙◌, ℕ, List, [], get_or, sym, ap, arith}
 use Rattle.rx_dense.specs.Layouts.{place_in_range}
 use Rattle.rx_dense.proofs.RowKinds.{no_needles, accel_first, accel_place, needles_are}
 use Rattle.rx_dense.proofs.AccelLists.{accel_lists_len, accel_lists_at}
@@ -20,8 +19,7 @@ returns g c =
     let i = place_in_range l l.special.min_accel c.args.id in
     let is_accel = sym (rw c.special.ensures at c.is_accel_state.ensures) ∙ c.if-not-is_accel_state.false in
     let place = accel_place l c.args.id c.requires.is_id c.requires.sound is_accel in
-    let within : i < length (accel_lists c.accel_words.result.now) = rw c.accel_words.ensures.value place in
     rw (c.place_in_range-place.ensures, c.special-2.ensures) at c.needles_of.ensures
-    ∙ sym (accel_lists_at c.accel_words.result.now i within)
+    ∙ sym (accel_lists_at c.accel_words.result.now i (rw c.accel_words.ensures.value place))
     ∙ ap (λ (xs : List (List ℕ)). get_or xs i []) c.accel_words.ensures.value
     ∙ needles_are l c.args.id c.requires.is_id is_accel

@@ -9,8 +9,7 @@ pub index_mut-requires : goal.index_mut-requires
 index_mut-requires c =
     let within = rw (← c.self.view_is) at c.column-column.ensures.within in
     let from = subst (λ (l : Layout). IsId (ids_of l) c.args.from) (sym c.self.view_is) c.requires.from in
-    let place = entry_within _ c.self.invariant.rows c.args.from c.column-column.result from within in
-    omega arith
+    omega (arith, entry_within _ c.self.invariant.rows c.args.from c.column-column.result from within)
 
 pub invariant_of-self : goal.invariant_of-self
 invariant_of-self c =

@@ -17,12 +17,10 @@ copy_row-requires-clause-to_within c =
 
 pub copy_row-requires-clause-apart : goal.copy_row-requires-clause-apart
 copy_row-requires-clause-apart c =
-    let stride_is = rw (← c.self.view_is) at c.stride-width.ensures.value in
-    let from_is = IsRowId-same c.self.view_is c.requires.from in
     let to_is = IsRowId-same c.self.view_is c.requires.to in
     let differ = eqb-false _ _ (sym c.eq.ensures ∙ c.if-eq.false) in
-    rw (c.as_usize.ensures.value, c.as_usize-2.ensures.value, stride_is)
-    (rows_apart _ c.args.from c.args.to from_is to_is differ)
+    rw (c.as_usize.ensures.value, c.as_usize-2.ensures.value, rw (← c.self.view_is) at c.stride-width.ensures.value)
+    (rows_apart _ c.args.from c.args.to (IsRowId-same c.self.view_is c.requires.from) to_is differ)
 
 pub invariant_of-self : goal.invariant_of-self
 invariant_of-self c =

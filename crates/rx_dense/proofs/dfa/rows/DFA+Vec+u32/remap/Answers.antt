@@ -11,9 +11,7 @@ rename_rows-requires-clause-rows c = grind (arith, common_steps, words_within)
 
 pub rename-requires-clause-rows : goal.rename-requires-clause-rows
 rename-requires-clause-rows c =
-    let l = c.args.self.now in
-    let shaped = subst IsShaped c.self.view_is c.self.invariant in
-    grind (arith, common_steps, starts_within)
+    grind (arith, common_steps, starts_within, c.args.self.now, subst IsShaped c.self.view_is c.self.invariant)
 
 pub returns-clause-value : goal.returns-clause-value
 returns-clause-value c =

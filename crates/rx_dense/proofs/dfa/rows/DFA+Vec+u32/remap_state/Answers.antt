@@ -1,4 +1,4 @@
-use Rattle.rx_spec.proofs.Prelude.{common_steps, List, ◌≡◌, ◌+◌, ◌-◌, ◌≤◌, ◌∙◌, ℕ, length, ap, subst, arith}
+use Rattle.rx_spec.proofs.Prelude.{common_steps, ◌≡◌, ◌+◌, ◌-◌, ◌∙◌, ap, subst, arith}
 use Rattle.rx_base.specs.ByteClasses.{alphabet_len}
 use Rattle.rx_dense.specs.Builder.{renamed_id}
 use Rattle.rx_dense.specs.Layouts.{Layout, IsShaped}
@@ -13,8 +13,7 @@ slice_bounds-rename-end c =
     let old_words = c.deref_mut.ensures.value ∙ ap (λ (l : Layout). l.words) c.self.view_is in
     let fits = (subst IsShaped c.self.view_is c.self.invariant).rows.fits in
     let below = (IsRowId-id l c.args.id c.requires.is_id).below in
-    let within : c.args.id + alphabet_len l.classes ≤ length l.words = omega arith in
-    rw (old_words, c.as_usize-first.ensures.value, c.alphabet_len.ensures) within
+    rw (old_words, c.as_usize-first.ensures.value, c.alphabet_len.ensures) (omega arith)
 
 pub rename-requires-clause-rows : goal.rename-requires-clause-rows
 rename-requires-clause-rows c = grind (arith, common_steps, words_within)
@@ -22,7 +21,6 @@ rename-requires-clause-rows c = grind (arith, common_steps, words_within)
 pub returns-clause-value : goal.returns-clause-value
 returns-clause-value c =
     let l = c.args.self.now in
-    let old_words = c.deref_mut.ensures.value ∙ ap (λ (l : Layout). l.words) c.self.view_is in
     let n : c.args.id + alphabet_len l.classes - c.args.id ≡ alphabet_len l.classes = omega arith in
     let fits = (subst IsShaped c.self.view_is c.self.invariant).rows.fits in
     let is = IsRowId-id l c.args.id c.requires.is_id in
@@ -32,15 +30,14 @@ returns-clause-value c =
       within = omega arith;
       ids =
           rw (
-            old_words,
+            c.deref_mut.ensures.value ∙ ap (λ (l : Layout). l.words) c.self.view_is,
             c.stride2-stride2.ensures.value,
             c.as_usize-first.ensures.value,
             c.alphabet_len.ensures,
             n,
           ) at c.rename.ensures;
     } in
-    let ws : List ℕ = put_mid c.args.id (alphabet_len l.classes) l.words c.rename.new.ids in
-    grind (arith, common_steps, row_renamed)
+    grind (arith, common_steps, row_renamed, put_mid c.args.id (alphabet_len l.classes) l.words c.rename.new.ids)
 
 pub returns-clause-rows : goal.returns-clause-rows
 returns-clause-rows c = grind (arith, common_steps)

@@ -5,7 +5,6 @@ use Rattle.rx_dense.proofs.dfa.rows.DFA+Vec+u32.truncate_states.Goals as goal
 
 pub invariant_of-self : goal.invariant_of-self
 invariant_of-self c =
-    let stride_is = rw (← c.self.view_is) at c.stride-width.ensures.value in
     let back = sym c.self.view_is in
     let within = subst (λ (l : Layout). c.args.len ≤ row_count l) back c.requires.within in
     let rows =
@@ -14,7 +13,7 @@ invariant_of-self c =
     let starts =
     subst (λ (l : Layout). (k : ℕ) → k < length l.starts → slice_index l.starts k < c.args.len * stride l)
     back c.requires.starts in
-    rw (c.truncate.ensures.items, stride_is)
+    rw (c.truncate.ensures.items, rw (← c.self.view_is) at c.stride-width.ensures.value)
     (shaped_cut _ c.args.len c.requires.two within rows starts c.self.invariant)
 
 pub returns : goal.returns

@@ -34,10 +34,8 @@ lead_in_rows-requires c =
 
 pub invariant_of-result : goal.invariant_of-result
 invariant_of-result c =
-    let joined = c.in_ok-start_anchored.ensures in
-    let led = c.in_ok-start_unanchored.ensures in
-    let edge = c.all_begin_with_edge.ensures in
-    let steps = adds_all c.in_ok-add_patterns.ensures c.deref.ensures.value joined edge led in
+    let steps = adds_all c.in_ok-add_patterns.ensures c.deref.ensures.value c.in_ok-start_anchored.ensures
+    c.all_begin_with_edge.ensures c.in_ok-start_unanchored.ensures in
     let made = nfa_made c.new.result c.get_utf8.result steps c.any_empty.ensures in
     let shallow = nfa_shallow c.direction-direction.result c.new.result c.get_utf8.result c.args.exprs.now in
     let patterns = nfa_names_patterns c.direction-direction.result c.new.result c.get_utf8.result c.args.exprs.now in
@@ -45,10 +43,8 @@ invariant_of-result c =
 
 pub returns : goal.returns
 returns c =
-    let joined = c.in_ok-start_anchored.ensures in
-    let led = c.in_ok-start_unanchored.ensures in
-    let edge = c.all_begin_with_edge.ensures in
-    let steps = adds_all c.in_ok-add_patterns.ensures c.deref.ensures.value joined edge led in
+    let steps = adds_all c.in_ok-add_patterns.ensures c.deref.ensures.value c.in_ok-start_anchored.ensures
+    c.all_begin_with_edge.ensures c.in_ok-start_unanchored.ensures in
     let terminator = c.new.ensures ∙ c.get_line_terminator-line_terminator.ensures in
     nfa_made c.new.result c.get_utf8.result steps c.any_empty.ensures
     ∙ nfa_same c.args.exprs.now c.direction-direction.ensures terminator c.get_utf8.ensures

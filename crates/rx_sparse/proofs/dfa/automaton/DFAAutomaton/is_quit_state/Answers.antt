@@ -13,7 +13,6 @@ returns-then-is_quit_id g c =
 
 pub returns-else-is_quit_id : goal.returns-else-is_quit_id
 returns-else-is_quit_id g c =
-    let l = c.args.self.now.layout in
     let quit = sym (rw c.special.ensures at c.is_quit_id.ensures) ∙ c.if-is_quit_id.false in
-    c.if-is_quit_id.false ∙ sym (ap (λ b. b && not (is_match_id l.special c.args.id)) quit)
-    ∙ quit_kind l c.args.id c.requires
+    c.if-is_quit_id.false ∙ sym (ap (λ b. b && not (is_match_id c.args.self.now.layout.special c.args.id)) quit)
+    ∙ quit_kind c.args.self.now.layout c.args.id c.requires

@@ -1,1 +1,0 @@
--- Whether a build is supported, as the code tells it.
