@@ -11,5 +11,6 @@ pub mod Parts
 pub mod Marks
 -- what a builder's calls make of a table
 pub mod Builder
+pub mod Examples
 -- rows and start entries, as they are handed out one by one
 pub mod States

@@ -5,11 +5,13 @@
 //!
 //! The contract: a table is seen as a `Layout`, a record of lists and numbers (`specs/Layouts.antt`), of which one
 //! function makes the table of the definitions. A call changes the named part of the layout, and nothing else.
+//! [`examples`] has calls whose results the definitions compute.
 #![tactic(auto)]
 
 mod accel;
 mod dfa;
 mod errors;
+pub mod examples;
 mod flags;
 mod special;
 mod store;
