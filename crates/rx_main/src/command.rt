@@ -17,7 +17,7 @@ use rx_script::{mode, number};
 use rx_wire::Order;
 
 /// What a command line asks for.
-#[derive(Clone, Copy, Debug, PartialEq, Eq)]
+#[derive(Clone, Copy)]
 pub enum Command {
     /// A command that reads all of the source before it replies.
     Read(ReadCommand),
@@ -28,7 +28,7 @@ pub enum Command {
 }
 
 /// A command that reads all of the source.
-#[derive(Clone, Copy, Debug, PartialEq, Eq)]
+#[derive(Clone, Copy)]
 pub enum ReadCommand {
     /// `find`: the leftmost match of a script's patterns in its haystack.
     Find,
@@ -51,7 +51,7 @@ pub enum ReadCommand {
 }
 
 /// The words of `search`.
-#[derive(Clone, Copy, Debug, PartialEq, Eq)]
+#[derive(Clone, Copy)]
 pub struct Search {
     /// Where the span starts.
     pub start: u32,
@@ -64,7 +64,7 @@ pub struct Search {
 }
 
 /// The words of `equal`.
-#[derive(Clone, Copy, Debug, PartialEq, Eq)]
+#[derive(Clone, Copy)]
 pub struct Equal {
     /// The form of the first table.
     pub form: Form,
@@ -75,7 +75,7 @@ pub struct Equal {
 }
 
 /// The words of `feed`.
-#[derive(Clone, Copy, Debug, PartialEq, Eq)]
+#[derive(Clone, Copy)]
 pub struct Feed {
     /// The form of the table.
     pub form: Form,

@@ -19,7 +19,7 @@ use rx_transfer::{CHUNK, TextFault, read_front};
 use std::alloc::Global;
 
 /// What was read of a source in which a literal was looked for.
-#[derive(Clone, Copy, Debug)]
+#[derive(Clone, Copy)]
 pub struct Sought {
     /// The number of bytes that the source had.
     pub len: usize,

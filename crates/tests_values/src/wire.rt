@@ -4,7 +4,7 @@
 ghost use Rattle.std.specs.Prelude.{◌≡◌, ◌≤◌, length};
 ghost use Rattle.rx_wire.specs.Heads.{IsLabel};
 
-use rx_base::StateID;
+use rx_base::{PatternID, StateID};
 use rx_wire::{
     BE, DeserializeError, DeserializeErrorKind, Endian, LE, Order, SerializeError, padding_len,
     read_endianness_check, read_label, read_order, read_version, try_read_pattern_id,
@@ -55,9 +55,59 @@ fn check(
     Ok(())
 }
 
-/// A number and its size.
-fn wide(number: u32, size: usize) -> (u128, usize) {
-    (number as u128, size)
+/// A number of two bytes that was read, and its size.
+fn wide_u16(
+    read: Result<(u16, usize), DeserializeError>,
+) -> Result<(u128, usize), DeserializeError> {
+    let (number, size) = read?;
+    Ok((number as u128, size))
+}
+
+/// A number of four bytes that was read, and its size.
+fn wide_u32(
+    read: Result<(u32, usize), DeserializeError>,
+) -> Result<(u128, usize), DeserializeError> {
+    let (number, size) = read?;
+    Ok((number as u128, size))
+}
+
+/// The number of a state id that was read, and its size.
+fn wide_state(
+    read: Result<(StateID, usize), DeserializeError>,
+) -> Result<(u128, usize), DeserializeError> {
+    let (id, size) = read?;
+    Ok((id.as_u32() as u128, size))
+}
+
+/// The number of a pattern id that was read, and its size.
+fn wide_pattern(
+    read: Result<(PatternID, usize), DeserializeError>,
+) -> Result<(u128, usize), DeserializeError> {
+    let (id, size) = read?;
+    Ok((id.as_u32() as u128, size))
+}
+
+/// A number that the reader was asked for, and its size.
+fn with_number(
+    number: u128,
+    read: Result<usize, DeserializeError>,
+) -> Result<(u128, usize), DeserializeError> {
+    let size = read?;
+    Ok((number, size))
+}
+
+/// The size of a label that was read, twice.
+fn twice(read: Result<usize, DeserializeError>) -> Result<(u128, usize), DeserializeError> {
+    let size = read?;
+    Ok((size as u128, size))
+}
+
+/// An order that was read, 0 for little endian and 1 for big endian, and its size.
+fn wide_order(
+    read: Result<(Order, usize), DeserializeError>,
+) -> Result<(u128, usize), DeserializeError> {
+    let (order, size) = read?;
+    Ok((if order == Order::Big { 1 } else { 0 }, size))
 }
 
 #[test]
@@ -96,42 +146,12 @@ fn numbers_are_read_in_either_order(rt: HostRuntime) -> Result<(), Fail> {
     ];
     for (bytes, le16, be16, le32, be32, le128, be128) in cases {
         let (le, be) = (Order::Little, Order::Big);
-        check(
-            &rt,
-            alloc,
-            try_read_u16(bytes, "a").map(|x| (x.0 as u128, x.1)),
-            le16,
-        )?;
-        check(
-            &rt,
-            alloc,
-            le.try_read_u16(bytes, "a").map(|x| (x.0 as u128, x.1)),
-            le16,
-        )?;
-        check(
-            &rt,
-            alloc,
-            be.try_read_u16(bytes, "a").map(|x| (x.0 as u128, x.1)),
-            be16,
-        )?;
-        check(
-            &rt,
-            alloc,
-            try_read_u32(bytes, "a").map(|x| wide(x.0, x.1)),
-            le32,
-        )?;
-        check(
-            &rt,
-            alloc,
-            le.try_read_u32(bytes, "a").map(|x| wide(x.0, x.1)),
-            le32,
-        )?;
-        check(
-            &rt,
-            alloc,
-            be.try_read_u32(bytes, "a").map(|x| wide(x.0, x.1)),
-            be32,
-        )?;
+        check(&rt, alloc, wide_u16(try_read_u16(bytes, "a")), le16)?;
+        check(&rt, alloc, wide_u16(le.try_read_u16(bytes, "a")), le16)?;
+        check(&rt, alloc, wide_u16(be.try_read_u16(bytes, "a")), be16)?;
+        check(&rt, alloc, wide_u32(try_read_u32(bytes, "a")), le32)?;
+        check(&rt, alloc, wide_u32(le.try_read_u32(bytes, "a")), le32)?;
+        check(&rt, alloc, wide_u32(be.try_read_u32(bytes, "a")), be32)?;
         check(&rt, alloc, try_read_u128(bytes, "a"), le128)?;
         check(&rt, alloc, le.try_read_u128(bytes, "a"), le128)?;
         check(&rt, alloc, be.try_read_u128(bytes, "a"), be128)?;
@@ -163,41 +183,37 @@ fn ids_are_read_up_to_the_greatest(rt: HostRuntime) -> Result<(), Fail> {
         check(
             &rt,
             alloc,
-            try_read_state_id(little, "a").map(|x| wide(x.0.as_u32(), x.1)),
+            wide_state(try_read_state_id(little, "a")),
             state,
         )?;
         check(
             &rt,
             alloc,
-            le.try_read_state_id(little, "a")
-                .map(|x| wide(x.0.as_u32(), x.1)),
+            wide_state(le.try_read_state_id(little, "a")),
             state,
         )?;
         check(
             &rt,
             alloc,
-            be.try_read_state_id(big, "a")
-                .map(|x| wide(x.0.as_u32(), x.1)),
+            wide_state(be.try_read_state_id(big, "a")),
             state,
         )?;
         check(
             &rt,
             alloc,
-            try_read_pattern_id(little, "a").map(|x| wide(x.0.as_u32(), x.1)),
+            wide_pattern(try_read_pattern_id(little, "a")),
             pattern,
         )?;
         check(
             &rt,
             alloc,
-            le.try_read_pattern_id(little, "a")
-                .map(|x| wide(x.0.as_u32(), x.1)),
+            wide_pattern(le.try_read_pattern_id(little, "a")),
             pattern,
         )?;
         check(
             &rt,
             alloc,
-            be.try_read_pattern_id(big, "a")
-                .map(|x| wide(x.0.as_u32(), x.1)),
+            wide_pattern(be.try_read_pattern_id(big, "a")),
             pattern,
         )?;
     }
@@ -216,7 +232,6 @@ fn orders_and_versions(rt: HostRuntime) -> Result<(), Fail> {
         "endianness mismatch: expected 0xFEFF but got 0x1020304. (Are you trying to load an object \
                      serialized with a different endianness?)",
     );
-    // 0 stands for little endian and 1 for big endian
     let words: &[(&[u8], Answer, Answer)] = &[
         (&[0xFF, 0xFE, 0], short, short),
         (&[0xFF, 0xFE, 0, 0, 1], Ok((0xFEFF, 4)), Ok((0, 4))),
@@ -227,15 +242,10 @@ fn orders_and_versions(rt: HostRuntime) -> Result<(), Fail> {
         check(
             &rt,
             alloc,
-            read_endianness_check(bytes).map(|size| (0xFEFF, size)),
+            with_number(0xFEFF, read_endianness_check(bytes)),
             check_answer,
         )?;
-        check(
-            &rt,
-            alloc,
-            read_order(bytes).map(|x| (if x.0 == Order::Big { 1 } else { 0 }, x.1)),
-            order_answer,
-        )?;
+        check(&rt, alloc, wide_order(read_order(bytes)), order_answer)?;
     }
     let short = Err("buffer is too small to read version");
     let turned = Err("unsupported version: expected version 2 but found version 33554432");
@@ -251,22 +261,17 @@ fn orders_and_versions(rt: HostRuntime) -> Result<(), Fail> {
         ),
     ];
     for (bytes, little, big) in versions {
+        check(&rt, alloc, with_number(2, read_version(bytes, 2)), little)?;
         check(
             &rt,
             alloc,
-            read_version(bytes, 2).map(|size| (2, size)),
+            with_number(2, Order::Little.read_version(bytes, 2)),
             little,
         )?;
         check(
             &rt,
             alloc,
-            Order::Little.read_version(bytes, 2).map(|size| (2, size)),
-            little,
-        )?;
-        check(
-            &rt,
-            alloc,
-            Order::Big.read_version(bytes, 2).map(|size| (2, size)),
+            with_number(2, Order::Big.read_version(bytes, 2)),
             big,
         )?;
     }
@@ -363,7 +368,7 @@ fn check_label(rt: &impl Abort, alloc: Global, label: &'static str, size: usize)
     check(
         rt,
         alloc,
-        read_label(&dst, label).map(|n| (n as u128, n)),
+        twice(read_label(&dst, label)),
         &Ok((size as u128, size)),
     )
 }
@@ -410,18 +415,13 @@ fn labels_that_are_refused(rt: HostRuntime) -> Result<(), Fail> {
         (b"foo\0x", Ok((4, 4))),
     ];
     for (bytes, wanted) in cases {
-        check(
-            &rt,
-            alloc,
-            read_label(bytes, "foo").map(|n| (n as u128, n)),
-            wanted,
-        )?;
+        check(&rt, alloc, twice(read_label(bytes, "foo")), wanted)?;
     }
     // the padding may be any bytes
     check(
         &rt,
         alloc,
-        read_label(b"fooba\0xy", "fooba").map(|n| (n as u128, n)),
+        twice(read_label(b"fooba\0xy", "fooba")),
         &Ok((8, 8)),
     )
 }
