@@ -1,4 +1,4 @@
-//! Tests of expressions, their states and steps, and scripts.
+//! Tests of expressions, their NFAs and their powerset states.
 //!
 //! They test what no contract states: that calls succeed on small and on large inputs, examples worked by hand, and the
 //! texts of errors.
@@ -8,7 +8,3 @@
 mod expr;
 #[cfg(test)]
 mod powerset;
-#[cfg(test)]
-mod script;
-#[cfg(test)]
-mod stepper;

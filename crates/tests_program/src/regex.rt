@@ -1,8 +1,6 @@
 //! Tests of building and searching by a plan: examples worked by hand, the lengths of images, and the texts of errors.
 
-mod pair_images;
 mod pairs;
-mod slow;
 
 ghost use Rattle.std.specs.Iterator.{IsFinite};
 

@@ -1,6 +1,5 @@
 //! Tests of each search over small tables, by examples worked by hand.
 
-mod far;
 mod sample;
 
 ghost use Rattle.std.specs.Prelude.{◌≡◌, ◌≤◌, length, true, false, IfOk, IfSome};

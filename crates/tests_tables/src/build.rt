@@ -1,6 +1,6 @@
 //! Tests of building tables: the numbers of states, the special ids, and the texts of errors.
 
-use rx_base::{Anchored, Input, MatchKind, Needles, StartKind};
+use rx_base::{Anchored, Input, Needles};
 use rx_build::BuildError;
 use rx_build::dense::{Builder, Config, DFA, DenseBuild};
 use rx_dense::OwnedDFA;
@@ -15,18 +15,10 @@ use tests_notation::read;
 #[derive(Clone, Copy)]
 enum Change {
     Minimize,
-    NoSkips,
-    Marks,
-    NoClasses,
-    PatternStarts,
     UnicodeWord,
-    Starts(StartKind),
-    Quit(u8),
     TableLimit(usize),
     StatesLimit(usize),
     NfaLimit(usize),
-    /// In reverse, anchored and for all matches, as a search for the starts of matches needs.
-    Reverse,
 }
 
 use Change::*;
@@ -34,29 +26,16 @@ use Change::*;
 fn changed(config: Config, change: Change) -> Config {
     match change {
         Minimize => config.minimize(true),
-        NoSkips => config.accelerate(false),
-        Marks => config.specialize_start_states(true),
-        NoClasses => config.byte_classes(false),
-        PatternStarts => config.starts_for_each_pattern(true),
         UnicodeWord => config.unicode_word_boundary(true),
-        Starts(kind) => config.start_kind(kind),
-        Quit(byte) => match config.quit(byte, true) {
-            Ok(config) => config,
-            Err(_) => Config::new(),
-        },
         TableLimit(bytes) => config.dfa_size_limit(Some(bytes)),
         StatesLimit(bytes) => config.determinize_size_limit(Some(bytes)),
         NfaLimit(_) => config,
-        Reverse => config
-            .match_kind(MatchKind::All)
-            .start_kind(StartKind::Anchored),
     }
 }
 
 fn nfa_changed(config: thompson::Config, change: Change) -> thompson::Config {
     match change {
         NfaLimit(bytes) => config.nfa_size_limit(Some(bytes)),
-        Reverse => config.reverse(true),
         _ => config,
     }
 }
@@ -142,53 +121,9 @@ fn tables(rt: HostRuntime) -> Result<(), Fail> {
         alloc,
         &[
             ("", &[TableLimit(0)], "2 rows; 2, 2, 0 0, 0 0, 0 0; []; 0 0"),
-            ("a", &[], "7 rows; 12, 4, 8 8, 12 12, 0 0; [97]; 12 16"),
-            (
-                "a",
-                &[Minimize],
-                "6 rows; 12, 4, 8 8, 12 12, 0 0; [97]; 12 16",
-            ),
-            ("a", &[Reverse], "5 rows; 8, 4, 8 8, 0 0, 0 0; []; 0 12"),
-            (
-                "a",
-                &[Reverse, Minimize],
-                "5 rows; 8, 4, 8 8, 0 0, 0 0; []; 0 12",
-            ),
-            (
-                "a",
-                &[NoClasses],
-                "7 rows; 1536, 512, 1024 1024, 1536 1536, 0 0; [97]; 1536 2048",
-            ),
-            (
-                "a",
-                &[Starts(StartKind::Unanchored)],
-                "5 rows; 12, 4, 8 8, 12 12, 0 0; [97]; 12 0",
-            ),
-            (
-                "a",
-                &[Quit(0x7a)],
-                "7 rows; 24, 8, 16 16, 24 24, 0 0; [97, 122]; 24 32",
-            ),
-            (
-                "abc",
-                &[NoSkips],
-                "11 rows; 16, 8, 16 16, 0 0, 0 0; []; 24 32",
-            ),
-            (
-                "abc",
-                &[NoSkips, Marks],
-                "11 rows; 32, 8, 16 16, 0 0, 24 32; []; 24 32",
-            ),
             ("abc", &[], "11 rows; 24, 8, 16 16, 24 24, 0 0; [97]; 24 32"),
-            (
-                "abc",
-                &[Marks],
-                "11 rows; 32, 8, 16 16, 24 24, 24 32; [97]; 24 32",
-            ),
             ("[]", &[], "4 rows; 2, 2, 0 0, 0 0, 0 0; []; 4 6"),
-            ("[]", &[Reverse], "3 rows; 2, 2, 0 0, 0 0, 0 0; []; 0 4"),
             ("[]", &[Minimize], "2 rows; 2, 2, 0 0, 0 0, 0 0; []; 0 0"),
-            ("<word>", &[], "7 rows; 32, 16, 32 32, 0 0, 0 0; []; 0 0"),
         ],
     )
 }
@@ -247,38 +182,6 @@ fn everywhere_and_nowhere(rt: HostRuntime) -> Result<(), Fail> {
     }
     let never = DFA::<Vec<u32>>::never_match(alloc)?;
     assert!(&rt; never.try_search_fwd(&input)?.is_none());
-    Ok(())
-}
-
-/// Asserts that the start states of a mode are dead exactly if the start kind leaves the mode out.
-fn check_starts(rt: &impl Abort, dfa: &OwnedDFA, kind: StartKind) {
-    for (id, mode, start) in dfa.starts() {
-        let built = match mode {
-            Anchored::No => kind.has_unanchored(),
-            Anchored::Yes => kind.has_anchored(),
-            Anchored::Pattern(_) => true,
-        };
-        assert!(rt;
-            (id.as_u32() != 0) == built,
-            "{kind:?}: {mode:?} {start:?} {}",
-            id.as_u32()
-        );
-    }
-}
-
-#[test]
-fn starts_that_are_left_out_are_dead(rt: HostRuntime) -> Result<(), Fail> {
-    let alloc = rt.alloc();
-    for kind in [StartKind::Both, StartKind::Unanchored, StartKind::Anchored] {
-        for patterns in ["a", "abc b"] {
-            let plain = build(alloc, patterns, &[Starts(kind)])??;
-            check_starts(&rt, &plain, kind);
-            let least = build(alloc, patterns, &[Starts(kind), Minimize])??;
-            check_starts(&rt, &least, kind);
-            let named = build(alloc, patterns, &[Starts(kind), Minimize, PatternStarts])??;
-            check_starts(&rt, &named, kind);
-        }
-    }
     Ok(())
 }
 

@@ -1,4 +1,4 @@
-//! Tests of tables: dense and sparse, put in order, minimized, determinized and built.
+//! Tests of tables: dense and sparse, put in order, minimized, built, written and read.
 //!
 //! They test what no contract states: that calls succeed on small and on large inputs, examples worked by hand, and the
 //! texts of errors.
@@ -9,7 +9,7 @@ mod build;
 #[cfg(test)]
 mod dense;
 #[cfg(test)]
-mod determinize;
+mod images;
 #[cfg(test)]
 mod minimize;
 #[cfg(test)]

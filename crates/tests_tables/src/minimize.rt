@@ -1,19 +1,44 @@
-//! Tests of minimizing: how many states are left of tables worked by hand, and that calls succeed.
+//! Tests of minimizing: how many states are left of tables worked by hand, and of long chains.
 
-ghost use Rattle.std.specs.Prelude.{◌<◌};
-ghost use Rattle.rx_spec.specs.Tables.{IsSound};
-ghost use Rattle.rx_dense.specs.Layouts.{table_of};
+ghost use Rattle.std.specs.Prelude.{◌<◌, IfOk};
+ghost use Rattle.tests_worked_tables.specs.Tables.{IsReady};
 
-mod pairs;
-mod tables;
-
-use pairs::{Pairs, Rows};
+use rx_base::Unit;
 use rx_dense::OwnedDFA;
 use rx_minimize::{Minimizer, minimize};
 use std::alloc::Global;
-use std::process::Abort;
 use std::test::Fail;
-use tables::{Case, labels, nexts, starts};
+use tests_worked_tables::table;
+
+/// Bytes up to `a`, the other bytes, and end of input.
+const COLUMNS: [&[Unit]; 3] = [&[Unit::Byte(b'a')], &[Unit::Byte(255)], &[Unit::Eoi]];
+
+/// A table to build.
+#[derive(Clone, Copy, Debug)]
+struct Case<'c> {
+    /// The next rows of each row after quit.
+    rows: &'c [[usize; 3]],
+    /// The patterns of the match rows.
+    matches: &'c [(usize, &'c [u32])],
+    /// The rows in which searches start.
+    unanchored: usize,
+    anchored: usize,
+}
+
+impl Case<'_> {
+    /// The table, with its rows in order.
+    fn table(&self, alloc: Global) -> Result<OwnedDFA, Fail>
+        ensures { IfOk result IsReady }
+    {
+        table(
+            alloc,
+            &COLUMNS,
+            self.rows,
+            self.matches,
+            [self.unanchored, self.anchored],
+        )
+    }
+}
 
 /// The tables, each with the number of rows that are left. A row gives the target of the bytes up to `a`, that of the
 /// other bytes, and that of end of input.
@@ -117,51 +142,16 @@ const CASES: [(Case, usize); 8] = [
     ),
 ];
 
-/// Asserts that minimizing leaves as few rows as possible, and that the start rows behave as they did before.
-fn check(rt: &impl Abort, alloc: Global, case: &Case, left: usize) -> Result<(), Fail> {
-    let mut dfa = case.table(alloc)?;
-    let before = rows(alloc, &dfa)?;
-    assert_eq!(rt;
-        Pairs::new(rt, alloc, &before)?.block_count(rt),
-        left,
-        "{case:?}"
-    );
-    minimize(alloc, &mut dfa)?;
-    assert_eq!(rt; dfa.state_len(), left, "{case:?}");
-    let after = rows(alloc, &dfa)?;
-    assert_eq!(rt;
-        Pairs::new(rt, alloc, &after)?.block_count(rt),
-        left,
-        "{case:?}"
-    );
-    let both = before.beside(rt, alloc, &after)?;
-    let pairs = Pairs::new(rt, alloc, &both)?;
-    assert_eq!(rt; before.starts.len(), after.starts.len());
-    for (old, new) in before.starts.iter().zip(&after.starts) {
-        assert!(rt; *new < left && left < 1000 && before.labels.len() < 1000);
-        assert!(rt;
-            !pairs.are_apart(rt, *old, before.labels.len() + *new),
-            "{case:?}"
-        );
-    }
-    Ok(())
-}
-
-/// The rows of a table, as numbers and lists.
-fn rows(alloc: Global, dfa: &OwnedDFA) -> Result<Rows, Fail>
-    requires { IsSound (table_of dfa.now) }
-{
-    Ok(Rows {
-        nexts: nexts(alloc, dfa)?,
-        labels: labels(alloc, dfa)?,
-        starts: starts(alloc, dfa)?,
-    })
-}
-
 #[test]
-fn few_rows(rt: HostRuntime) -> Result<(), Fail> {
+fn as_few_rows_as_possible_are_left(rt: HostRuntime) -> Result<(), Fail> {
+    let alloc = rt.alloc();
     for (case, left) in &CASES {
-        check(&rt, rt.alloc(), case, *left)?;
+        let mut dfa = case.table(alloc)?;
+        minimize(alloc, &mut dfa)?;
+        assert_eq!(rt; dfa.state_len(), *left, "{case:?}");
+        let mut again = case.table(alloc)?;
+        Minimizer::new(alloc, &mut again)?.run()?;
+        assert_eq!(rt; again.state_len(), *left, "{case:?}");
     }
     Ok(())
 }
@@ -198,51 +188,6 @@ fn long_chains(rt: HostRuntime) -> Result<(), Fail> {
         let mut dfa = case.table(alloc)?;
         minimize(alloc, &mut dfa)?;
         assert_eq!(rt; dfa.state_len(), left);
-    }
-    Ok(())
-}
-
-/// Asserts that a table has these rows and uses this much memory.
-fn check_same(
-    rt: &impl Abort,
-    alloc: Global,
-    dfa: &OwnedDFA,
-    before: &Rows,
-    memory: usize,
-) -> Result<(), Fail>
-    requires { IsSound (table_of dfa.now) }
-{
-    let after = rows(alloc, dfa)?;
-    assert!(rt; before.nexts.as_slice() == after.nexts.as_slice());
-    assert!(rt; before.labels.as_slice() == after.labels.as_slice());
-    assert!(rt; before.starts.as_slice() == after.starts.as_slice());
-    assert_eq!(rt; dfa.memory_usage(), memory);
-    Ok(())
-}
-
-#[test]
-fn minimizing_succeeds_or_changes_nothing(rt: HostRuntime) -> Result<(), Fail> {
-    let alloc = rt.alloc();
-    let mut dfa = CASES[3].0.table(alloc)?;
-    let before = rows(alloc, &dfa)?;
-    let memory = dfa.memory_usage();
-    match minimize(alloc, &mut dfa) {
-        Ok(()) => assert_eq!(rt; dfa.state_len(), 4),
-        Err(_) => check_same(&rt, alloc, &dfa, &before, memory)?,
-    }
-    Ok(())
-}
-
-#[test]
-fn a_minimizer_succeeds_or_changes_nothing(rt: HostRuntime) -> Result<(), Fail> {
-    let alloc = rt.alloc();
-    let mut dfa = CASES[3].0.table(alloc)?;
-    let before = rows(alloc, &dfa)?;
-    let memory = dfa.memory_usage();
-    let minimizer = Minimizer::new(alloc, &mut dfa)?;
-    match minimizer.run() {
-        Ok(()) => assert_eq!(rt; dfa.state_len(), 4),
-        Err(_) => check_same(&rt, alloc, &dfa, &before, memory)?,
     }
     Ok(())
 }

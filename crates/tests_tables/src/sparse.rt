@@ -8,14 +8,13 @@ ghost use Rattle.rx_search.specs.OverlappingCalls.{Fits};
 ghost use Rattle.rx_sparse.specs.Facts.{IsSoundLayout};
 
 use rx_base::{
-    Anchored, HalfMatch, Input, MatchError, MatchKind, PatternID, StartKind, StateID, Steps, Tally,
+    Anchored, HalfMatch, Input, MatchError, MatchKind, PatternID, StateID, Steps, Tally,
 };
 use rx_build::dense::{Builder, Config};
 use rx_dense::{OwnedDFA, Special};
 use rx_expr::thompson;
 use rx_search::{Automaton, Cursor, OverlappingState, find_fwd_counted};
 use rx_sparse::{DFA, ToSparse};
-use rx_sparse_build::BuildSparse;
 use rx_sparse_build::laws::special_ids_are_rows;
 use rx_wire::Order;
 use std::alloc::{AllocError, Global};
@@ -194,35 +193,6 @@ fn overlapping_searches_tell_sam_and_then_samwise(rt: HostRuntime) -> Result<(),
     ];
     for told in tables {
         assert!(&rt; told == wanted, "{told:?}");
-    }
-    Ok(())
-}
-
-/// The sparse table of `abc` with start states of a kind.
-fn with_starts(alloc: Global, kind: StartKind, minimize: bool) -> Result<DFA<Vec<u8>>, Fail> {
-    let exprs = read(alloc, "abc")?;
-    let mut builder = Builder::new();
-    builder.configure(Config::new().start_kind(kind).minimize(minimize));
-    Ok(builder.build_many_sparse(alloc, &exprs)?)
-}
-
-#[test]
-fn starts_that_are_left_out_are_dead(rt: HostRuntime) -> Result<(), Fail> {
-    let alloc = rt.alloc();
-    for kind in [StartKind::Both, StartKind::Unanchored, StartKind::Anchored] {
-        for minimize in [false, true] {
-            let dfa = with_starts(alloc, kind, minimize)?;
-            assert!(&rt; dfa.start_len() == 12, "{}", dfa.start_len());
-            for i in 0..dfa.start_len() {
-                let built = if i < 6 {
-                    kind.has_unanchored()
-                } else {
-                    kind.has_anchored()
-                };
-                let id = dfa.start_at(i).as_u32();
-                assert!(&rt; (id != 0) == built, "{kind:?} {minimize} {i}: {id}");
-            }
-        }
     }
     Ok(())
 }

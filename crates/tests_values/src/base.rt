@@ -1,66 +1,12 @@
-//! Tests of assertions, ids, byte classes, sets and searches, worked by hand, and that each call does what its name
-//! says.
+//! Tests of assertions, of sets of patterns, and of sources and sinks.
 
 mod assertions;
-mod classes;
 mod outside;
-mod searches;
 
-use rx_base::start::Config;
-use rx_base::{
-    Anchored, Input, Look, LookMatcher, LookSet, PatternID, PatternSet, Start, StartByteMap,
-    StartKind, StateID,
-};
+use rx_base::{PatternID, PatternSet};
 use std::alloc::{AllocError, Global};
 use std::process::Abort;
 use std::test::Fail;
-
-/// The number of a state's id, or the number that was rejected.
-fn state_number(n: usize) -> Result<usize, u64> {
-    match StateID::new(n) {
-        Ok(id) => Ok(id.as_usize()),
-        Err(e) => Err(e.attempted),
-    }
-}
-
-/// The number of a pattern's id, or the number that was rejected.
-fn pattern_number(n: usize) -> Result<usize, u64> {
-    match PatternID::new(n) {
-        Ok(id) => Ok(id.as_usize()),
-        Err(e) => Err(e.attempted),
-    }
-}
-
-#[test]
-fn an_id_is_at_most_the_greatest(rt: HostRuntime) {
-    let table: &[(usize, Result<usize, u64>)] = &[
-        (0, Ok(0)),
-        (2147483646, Ok(2147483646)),
-        (2147483647, Err(2147483647)),
-        (4294967296, Err(4294967296)),
-    ];
-    for (n, want) in table {
-        assert!(rt;
-            state_number(*n) == *want && pattern_number(*n) == *want,
-            "{n}"
-        );
-    }
-    assert!(rt; StateID::must(7).as_u32() == 7 && StateID::default() == StateID::ZERO);
-    assert!(rt;
-        PatternID::must(7) < PatternID::MAX && StateID::MAX.as_usize() + 1 == StateID::LIMIT
-    );
-}
-
-#[test]
-fn look_sets_hold_what_was_put_in(rt: HostRuntime) {
-    let words = LookSet::empty()
-        .insert(Look::WordEndHalfUnicode)
-        .insert(Look::End);
-    assert!(rt; words.contains(Look::End) && !words.contains(Look::Start));
-    assert!(rt; words.contains_word_unicode() && words.len() == 2 && LookSet::full().len() == 18);
-    let ends = words.remove(Look::WordEndHalfUnicode);
-    assert!(rt; !ends.contains_word_unicode() && ends == LookSet::default().insert(Look::End));
-}
 
 /// Adds a pattern and returns whether it is new.
 fn insert(rt: &impl Abort, set: &mut PatternSet, pattern: usize) -> bool {
@@ -116,54 +62,4 @@ fn pattern_sets_hold_what_was_put_in(rt: HostRuntime) -> Result<(), Fail> {
         }
     }
     Ok(())
-}
-
-#[test]
-fn a_terminator_has_its_own_context(rt: HostRuntime) {
-    let table: &[(u8, Start)] = &[
-        (b'a', Start::CustomLineTerminator),
-        (b'b', Start::WordByte),
-        (b'\n', Start::LineLF),
-        (b'\r', Start::LineCR),
-        (b' ', Start::NonWordByte),
-    ];
-    let map = StartByteMap::new(&LookMatcher::new(b'a'));
-    for (byte, start) in table {
-        assert!(rt; map.get(*byte) == *start, "at {byte}");
-    }
-    let feed = StartByteMap::new(&LookMatcher::default());
-    assert!(rt; feed.get(b'\n') == Start::LineLF);
-}
-
-#[test]
-fn a_start_kind_has_its_modes(rt: HostRuntime) {
-    let table: &[(StartKind, bool, bool)] = &[
-        (StartKind::Both, true, true),
-        (StartKind::Unanchored, true, false),
-        (StartKind::Anchored, false, true),
-    ];
-    for (kind, unanchored, anchored) in table {
-        let has_modes = kind.has_unanchored() == *unanchored && kind.has_anchored() == *anchored;
-        assert!(rt; has_modes, "{kind:?}");
-    }
-}
-
-/// The bytes beside a span that decide the start states of a forward search and of a reverse search.
-fn beside(input: &Input<'_>) -> (Option<u8>, Option<u8>) {
-    (
-        Config::from_input_forward(input).get_look_behind(),
-        Config::from_input_reverse(input).get_look_behind(),
-    )
-}
-
-#[test]
-fn a_search_starts_beside_its_span(rt: HostRuntime) {
-    let input = Input::new(b"abcd").range(1, 3).anchored(Anchored::Yes);
-    assert!(rt; beside(&input) == (Some(b'a'), Some(b'd')));
-    assert!(rt; Config::from_input_forward(&input).get_anchored() == Anchored::Yes);
-    assert!(rt; beside(&Input::new(b"abcd")) == (None, None));
-    let config = Config::default()
-        .look_behind(Some(b'x'))
-        .anchored(Anchored::Yes);
-    assert!(rt; config.get_look_behind() == Some(b'x'));
 }

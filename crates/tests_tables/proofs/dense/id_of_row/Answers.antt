@@ -1,6 +1,6 @@
 use Rattle.rx_dense.proofs.Rows.{IsId-row_id, IsRowId-row}
 use Rattle.rx_dense.proofs.States.{first_shifted}
-use Rattle.tests_tables.proofs.dense.tables.id_of_row.Goals as goal
+use Rattle.tests_tables.proofs.dense.id_of_row.Goals as goal
 
 pub returns : goal.returns
 returns c =
