@@ -2,21 +2,17 @@
 
 mod sample;
 
-ghost use Rattle.std.specs.Prelude.{◌≡◌, ◌≤◌, length, true, false, IfOk, IfSome};
 ghost use Rattle.rx_spec.specs.Queries.{IsFit};
 ghost use Rattle.rx_base.specs.Input.{query_of};
-ghost use Rattle.rx_search.specs.Walks.{IsInSpan};
 
 use Direction::{Forward, Reverse};
 use Told::{Match, Nothing, Quit, Unsupported};
-use rx_base::start::Config;
 use rx_base::{
-    Anchored, Direction, HalfMatch, Input, MatchError, MatchErrorKind, PatternID, PatternSet,
-    StartKind, Steps, Tally,
+    Anchored, Direction, HalfMatch, Input, MatchError, MatchErrorKind, StartKind, Steps, Tally,
 };
 use rx_search::{
     Automaton, Cursor, OverlappingState, find_fwd, find_fwd_counted, find_overlapping_fwd,
-    find_overlapping_rev, find_rev, find_rev_counted, skip_splits_fwd, skip_splits_rev,
+    find_overlapping_rev, find_rev, find_rev_counted,
 };
 use sample::{Row, Sample, make_sample};
 use std::process::Abort;
@@ -322,24 +318,6 @@ fn quit_bytes_and_modes_refuse(rt: HostRuntime) -> Result<(), Fail> {
 }
 
 #[test]
-fn starts_are_those_of_the_mode(rt: HostRuntime) -> Result<(), Fail> {
-    let alloc = rt.alloc();
-    let mut digits = make_sample(&rt, alloc, &DIGITS)?;
-    digits.kind = StartKind::Anchored;
-    assert!(rt; digits.universal_start_state(Anchored::No).is_none());
-    let start = digits.universal_start_state(Anchored::Yes);
-    assert!(rt;
-        start
-            == digits
-                .start_state(&Config::new().anchored(Anchored::Yes))
-                .ok()
-    );
-    let past = Config::new().anchored(Anchored::Pattern(PatternID::new(3)?));
-    assert!(rt; digits.start_state(&past).is_ok_and(|id| id.as_u32() == 0));
-    Ok(())
-}
-
-#[test]
 fn overlapping_searches_tell_every_match(rt: HostRuntime) -> Result<(), Fail> {
     let alloc = rt.alloc();
     let sam = make_sample(&rt, alloc, &SAMWISE)?;
@@ -406,96 +384,4 @@ fn matches_that_split_a_character_are_passed_over(rt: HostRuntime) -> Result<(),
     let asked = Asked(snow, 0, 2, false, false);
     check_overlapping(&rt, &empty, asked, Reverse, &[Match(0, 0), Nothing]);
     Ok(())
-}
-
-#[test]
-fn sets_take_the_patterns_that_are_told(rt: HostRuntime) -> Result<(), Fail> {
-    let alloc = rt.alloc();
-    let three = make_sample(&rt, alloc, &NOTHING)?;
-    for (first, capacity, want) in [(false, 3, 3), (true, 3, 1), (false, 5, 3)] {
-        let input = input(&rt, Asked(b"ab", 0, 2, false, first));
-        let mut set = PatternSet::new(alloc, capacity)?;
-        assert!(rt; three.pattern_len() <= set.capacity());
-        let answer = three.try_which_overlapping_matches(&input, &mut set);
-        assert!(rt; answer.is_ok());
-        assert_eq!(rt; set.len(), want);
-    }
-    Ok(())
-}
-
-/// A search that reports the first of some offsets that lies in the span. If none does, it quits or reports no match.
-fn first_in_span(
-    offsets: &[usize],
-    gives_up: bool,
-    input: &Input<'_>,
-) -> Result<Option<HalfMatch>, MatchError>
-    ensures { IfOk result (λ found. IfSome found (λ h. IsInSpan (query_of input.now) h.offset)) }
-{
-    for offset in offsets {
-        if input.start() <= *offset && *offset <= input.end() {
-            return Ok(Some(HalfMatch::new(PatternID::must(1), *offset)));
-        }
-    }
-    if gives_up {
-        return Err(MatchError::quit(0xff, input.start()));
-    }
-    Ok(None)
-}
-
-/// The offset of the first match, the offsets that the search may report after it, whether it quits if none lies in the
-/// span, the span and whether it is anchored, and the result. The first match is of pattern 7, and those of the search
-/// are of pattern 1.
-type Skip = (usize, &'static [usize], bool, (usize, usize, bool), Told);
-
-/// Two snowmen of three bytes each: only matches at 0, 3 or 6 don't split a character.
-const SKIPS_FWD: [Skip; 8] = [
-    (3, &[1], true, (0, 6, false), Match(7, 3)),
-    (1, &[1, 2, 3], true, (0, 6, false), Match(1, 3)),
-    (1, &[1, 2, 4, 5, 6], true, (0, 6, false), Match(1, 6)),
-    (2, &[2, 1, 4], false, (0, 6, false), Nothing),
-    (1, &[4], false, (1, 4, false), Nothing),
-    (1, &[2, 3], true, (0, 6, true), Nothing),
-    (1, &[2], true, (0, 6, false), Quit(0xff, 3)),
-    (4, &[4], true, (2, 4, false), Quit(0xff, 5)),
-];
-
-const SKIPS_REV: [Skip; 7] = [
-    (3, &[1], true, (0, 6, false), Match(7, 3)),
-    (5, &[5, 4, 3], true, (0, 6, false), Match(1, 3)),
-    (2, &[2, 1, 0], true, (0, 6, false), Match(1, 0)),
-    (2, &[2, 1], false, (0, 6, false), Nothing),
-    (2, &[1, 0], true, (0, 2, true), Nothing),
-    (2, &[1], true, (0, 2, false), Quit(0xff, 0)),
-    (4, &[4], true, (3, 4, false), Quit(0xff, 3)),
-];
-
-/// Asserts the result after a first match in the span.
-fn check_skip(rt: &impl Abort, text: &[u8], direction: Direction, skip: Skip) {
-    let (first, offsets, gives_up, (start, end, anchored), want) = skip;
-    let input = input(rt, Asked(text, start, end, anchored, false));
-    assert!(rt; input.start() <= first && first <= input.end());
-    let half = HalfMatch::new(PatternID::must(7), first);
-    let told = match direction {
-        Forward => skip_splits_fwd(&input, half, |at: &Input<'_>| {
-            first_in_span(offsets, gives_up, at)
-        }),
-        Reverse => skip_splits_rev(&input, half, |at: &Input<'_>| {
-            first_in_span(offsets, gives_up, at)
-        }),
-    };
-    assert_eq!(rt; tell(told), want, "{direction:?}, {first}");
-}
-
-#[test]
-fn splits_are_skipped_whatever_the_search(rt: HostRuntime) {
-    let snow = "\u{2603}\u{2603}".as_bytes();
-    for skip in SKIPS_FWD {
-        check_skip(&rt, snow, Forward, skip);
-    }
-    for skip in SKIPS_REV {
-        check_skip(&rt, snow, Reverse, skip);
-    }
-    // no span ends before 0, where this text splits a character
-    let narrowest = (0, [0].as_slice(), true, (0, 0, false), Nothing);
-    check_skip(&rt, b"\x98\x83", Reverse, narrowest);
 }

@@ -23,7 +23,10 @@ const PAST: [u8; 4] = [0xFF, 0xFF, 0xFF, 0x7F];
 #[test]
 fn readers_say_what_is_wrong(rt: HostRuntime) -> Result<(), Fail> {
     let refused: [(Option<DeserializeError>, &str); 9] = [
-        (try_read_u16(&[7], "a").err(), "buffer is too small to read a"),
+        (
+            try_read_u16(&[7], "a").err(),
+            "buffer is too small to read a",
+        ),
         (
             try_read_state_id(&PAST, "a").err(),
             "failed to read state ID for a: 2147483647 is above the greatest id, 2147483646",
