@@ -17,5 +17,3 @@ pub mod sparse;
 pub mod sparse_build;
 pub mod sparse_image;
 pub mod stream;
-#[cfg(test)]
-mod tests;

@@ -1,9 +1,11 @@
-//! Tests of the program and its parts: replies to scripts, images and texts.
+//! Tests of the program, its parts and the examples of callers: replies to scripts, images and texts.
 //!
 //! They test what no contract states: that calls succeed on small and on large inputs, examples worked by hand, and the
 //! texts of errors.
 #![tactic(auto)]
 
+#[cfg(test)]
+mod callers;
 pub mod examples;
 #[cfg(test)]
 mod feed;

@@ -22,7 +22,7 @@ use rx_sparse::DFA as SparseDFA;
 use rx_sparse_build::SparseBuild;
 use rx_sparse_image::{SparseRead, SparseWrite};
 use rx_wire::{DeserializeError, DeserializeErrorKind, Order};
-use std::alloc::Global;
+use std::alloc::{AllocError, Global};
 use std::io;
 use std::process::ExitCode;
 
@@ -140,32 +140,45 @@ impl Case {
         }
     }
 
-    fn run_dense(self, alloc: Global) -> Result<(), Fault> {
-        let dfa = self.build_dense(alloc)?;
-        let Ok((image, _)) = dfa.to_bytes_little_endian(alloc) else {
-            self.search(&dfa)?;
-            return Err(Fault::Memory("to_bytes"));
-        };
-        let Ok((big, _)) = dfa.to_bytes_big_endian(alloc) else {
-            self.search(&dfa)?;
-            return Err(Fault::Memory("to_bytes"));
-        };
-        if image.len() != self.size() || big.len() != self.size() {
-            return Err(Fault::Wrong("to_bytes"));
-        }
-        for bytes in [image.as_slice(), big.as_slice()] {
-            match DFA::<Vec<u32>>::from_bytes(alloc, bytes) {
-                Ok((read, size)) if size == self.size() => self.search(&read)?,
-                Ok(_) => return Err(Fault::Wrong("from_bytes")),
-                Err(error) => return Err(read_fault(&error, "from_bytes")),
+    /// What a call made of a table. If it ran out of memory, the table must still be as it was.
+    fn made<A: Automaton, T: Drop>(
+        self,
+        dfa: &A,
+        made: Result<T, AllocError>,
+        call: &'static str,
+    ) -> Result<T, Fault>
+        requires { A.IsSound dfa.now }
+    {
+        match made {
+            Ok(value) => Ok(value),
+            Err(_) => {
+                self.search(dfa)?;
+                Err(Fault::Memory(call))
             }
         }
+    }
+
+    fn run_dense(self, alloc: Global) -> Result<(), Fault> {
+        let dfa = self.build_dense(alloc)?;
+        let (little, _) = self.made(&dfa, dfa.to_bytes_little_endian(alloc), "to_bytes")?;
+        self.read_dense(alloc, little.as_slice())?;
+        let (big, _) = self.made(&dfa, dfa.to_bytes_big_endian(alloc), "to_bytes")?;
+        self.read_dense(alloc, big.as_slice())?;
         match dfa.to_owned(alloc) {
             Ok(copy) => self.search(&copy),
             Err(_) => {
                 self.search(&dfa)?;
                 Err(Fault::Memory("to_owned"))
             }
+        }
+    }
+
+    /// Reads the image of a dense table, and searches with it.
+    fn read_dense(self, alloc: Global, image: &[u8]) -> Result<(), Fault> {
+        match DFA::<Vec<u32>>::from_bytes(alloc, image) {
+            Ok((read, size)) if size == self.size() && size == image.len() => self.search(&read),
+            Ok(_) => Err(Fault::Wrong("from_bytes")),
+            Err(error) => Err(read_fault(&error, "from_bytes")),
         }
     }
 
@@ -185,24 +198,10 @@ impl Case {
 
     fn run_sparse(self, alloc: Global) -> Result<(), Fault> {
         let dfa = self.build_sparse(alloc)?;
-        let Ok(image) = dfa.to_bytes_little_endian(alloc) else {
-            self.search(&dfa)?;
-            return Err(Fault::Memory("to_bytes"));
-        };
-        let Ok(big) = dfa.to_bytes_big_endian(alloc) else {
-            self.search(&dfa)?;
-            return Err(Fault::Memory("to_bytes"));
-        };
-        if image.len() != self.size() || big.len() != self.size() {
-            return Err(Fault::Wrong("to_bytes"));
-        }
-        for bytes in [image.as_slice(), big.as_slice()] {
-            match SparseDFA::<&[u8]>::from_bytes(alloc, bytes) {
-                Ok((read, size)) if size == self.size() => self.search(&read)?,
-                Ok(_) => return Err(Fault::Wrong("from_bytes")),
-                Err(error) => return Err(read_fault(&error, "from_bytes")),
-            }
-        }
+        let little = self.made(&dfa, dfa.to_bytes_little_endian(alloc), "to_bytes")?;
+        self.read_sparse(alloc, little.as_slice())?;
+        let big = self.made(&dfa, dfa.to_bytes_big_endian(alloc), "to_bytes")?;
+        self.read_sparse(alloc, big.as_slice())?;
         match dfa.to_owned(alloc) {
             Ok(copy) => self.search(&copy),
             Err(_) => {
@@ -212,14 +211,20 @@ impl Case {
         }
     }
 
+    /// Reads the image of a sparse table, and searches with it.
+    fn read_sparse(self, alloc: Global, image: &[u8]) -> Result<(), Fault> {
+        match SparseDFA::<&[u8]>::from_bytes(alloc, image) {
+            Ok((read, size)) if size == self.size() && size == image.len() => self.search(&read),
+            Ok(_) => Err(Fault::Wrong("from_bytes")),
+            Err(error) => Err(read_fault(&error, "from_bytes")),
+        }
+    }
+
     /// Writes a dense table as both tables of a pair, and reads the pair.
     fn run_dense_pair(self, alloc: Global) -> Result<(), Fault> {
         let dfa = self.build_dense(alloc)?;
         for order in [Order::Little, Order::Big] {
-            let Ok(image) = dense_pair(alloc, order, &dfa, &dfa) else {
-                self.search(&dfa)?;
-                return Err(Fault::Memory("dense_pair"));
-            };
+            let image = self.made(&dfa, dense_pair(alloc, order, &dfa, &dfa), "dense_pair")?;
             self.read_pair(alloc, image.as_slice())?;
         }
         Ok(())
@@ -229,10 +234,7 @@ impl Case {
     fn run_sparse_pair(self, alloc: Global) -> Result<(), Fault> {
         let dfa = self.build_sparse(alloc)?;
         for order in [Order::Little, Order::Big] {
-            let Ok(image) = sparse_pair(alloc, order, &dfa, &dfa) else {
-                self.search(&dfa)?;
-                return Err(Fault::Memory("sparse_pair"));
-            };
+            let image = self.made(&dfa, sparse_pair(alloc, order, &dfa, &dfa), "sparse_pair")?;
             self.read_pair(alloc, image.as_slice())?;
         }
         Ok(())

@@ -1,9 +1,9 @@
-//! Each caller once, on tables of a few patterns.
+//! Tests of the callers of `docs/calling`, on tables of a few patterns.
 
 ghost use Rattle.std.specs.Prelude.{IfOk};
 ghost use Rattle.rx_dense.specs.Facts.{IsSoundLayout};
 
-use crate::{
+use example_callers::{
     base, build, dense, dense_image, expr, image, pair, regex, scan, search, sparse_build,
     sparse_image, stream,
 };
