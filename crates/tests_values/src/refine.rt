@@ -1,5 +1,4 @@
-//! Tests of the refinement on tables worked by hand and on long chains, of row numbers and of ids. The number of steps
-//! is compared with its limit.
+//! Tests of the refinement on tables worked by hand and on long chains, of row numbers and of ids.
 //!
 //! The tests assert the requirements of the refinement for each table, so a table can come from anywhere.
 
@@ -47,24 +46,6 @@ fn refined(
     laws::room();
     let blocks = refine(alloc, incoming, labels, &mut steps)?;
     Ok((blocks, steps.count()))
-}
-
-/// The block of each row, named by its first row, and the number of steps. Asserts that the steps are within the limit.
-fn compared(rt: &impl Abort, alloc: Global, table: Table<'_>) -> Result<(Vec<u32>, u64), Fail> {
-    let Table {
-        units,
-        next,
-        labels,
-    } = table;
-    let rows = labels.len();
-    assert!(rt; units <= 64 && rows <= 1024);
-    assert!(rt; next.len() == rows * units && are_below(next, rows) && are_below(labels, rows));
-    let incoming = Incoming::new(alloc, rows, units, next)?;
-    let (blocks, steps) = refined(alloc, &incoming, labels)?;
-    let digits = usize::BITS - rows.leading_zeros();
-    let limit = (2 * units * rows) as u64 * u64::from(digits);
-    assert!(rt; steps <= limit, "{next:?} {labels:?}: {steps}");
-    Ok((named_by_first(alloc, &blocks)?, steps))
 }
 
 /// The greatest block number. Asserts that blocks and steps are the same for rows without gaps and for the same rows as
@@ -121,44 +102,6 @@ fn padded(
     Ok(table)
 }
 
-/// For each row, the first row with its number.
-fn named_by_first(alloc: Global, numbers: &[u32]) -> Result<Vec<u32>, Fail> {
-    let mut named = Vec::with_capacity(alloc, numbers.len())?;
-    for number in numbers {
-        let first = numbers.iter().position(|other| *other == *number);
-        named.push(u32::try_from(first.unwrap_or(0))?)?;
-    }
-    Ok(named)
-}
-
-/// Tables worked by hand. The last one has no rows, so no blocks and no steps.
-#[test]
-fn worked_tables(rt: HostRuntime) -> Result<(), Fail> {
-    let rows: &[(usize, &[u32], &[u32], &[u32], u64)] = &[
-        (1, &[1, 2, 3, 3], &[0, 0, 0, 1], &[0, 1, 2, 3], 24),
-        (1, &[1, 0, 3, 2], &[0, 0, 0, 0], &[0, 0, 0, 0], 24),
-        (1, &[1, 0, 3, 2], &[0, 0, 0, 1], &[0, 0, 2, 3], 24),
-        (2, &[], &[], &[], 0),
-    ];
-    for (units, next, labels, want, most) in rows {
-        let units = *units;
-        let (named, steps) = compared(
-            &rt,
-            rt.alloc(),
-            Table {
-                units,
-                next,
-                labels,
-            },
-        )?;
-        assert!(rt;
-            named.as_slice() == *want && steps <= *most,
-            "{named:?} in {steps}"
-        );
-    }
-    Ok(())
-}
-
 /// The rows of a chain: each leads to the next one, and the last one to itself.
 fn chain_rows(alloc: Global, rows: u32) -> Result<Vec<u32>, AllocError> {
     let mut next = Vec::with_capacity(alloc, rows as usize)?;
@@ -178,67 +121,47 @@ fn last_labelled(alloc: Global, rows: u32) -> Result<Vec<u32>, AllocError> {
 }
 
 /// A chain needs as many rounds as it has rows. After the first round, the refinement processes its blocks one by one.
-/// The rows of a long chain are all in different blocks too.
+/// All rows are in different blocks.
 #[test]
 fn chains(rt: HostRuntime) -> Result<(), Fail> {
     let alloc = rt.alloc();
-    let units = 1;
-    let next = &chain_rows(alloc, 200)?;
-    let labels = &last_labelled(alloc, 200)?;
-    let (apart, _steps) = compared(
-        &rt,
-        alloc,
-        Table {
-            units,
-            next,
-            labels,
-        },
-    )?;
-    assert!(rt;
-        apart
-            .iter()
-            .enumerate()
-            .all(|(row, block)| *block as usize == row)
-    );
-    let next = &chain_rows(alloc, 100_000)?;
-    let labels = &last_labelled(alloc, 100_000)?;
-    let greatest = compared_in_place(
-        &rt,
-        alloc,
-        Table {
-            units,
-            next,
-            labels,
-        },
-        1,
-    )?;
-    assert!(rt; greatest == Some(99_999));
+    for rows in [2, 200, 100_000] {
+        let next = chain_rows(alloc, rows)?;
+        let labels = last_labelled(alloc, rows)?;
+        let table = Table {
+            units: 1,
+            next: &next,
+            labels: &labels,
+        };
+        let greatest = compared_in_place(&rt, alloc, table, 1)?;
+        assert!(rt; greatest == Some(rows - 1));
+    }
     Ok(())
 }
+
+/// Tables worked by hand, with the number of units, the gap after each row, and the greatest block. The last two have no
+/// units and no rows.
+const WORKED: [(usize, usize, &[u32], &[u32], Option<u32>); 6] = [
+    (1, 0, &[1, 2, 3, 3], &[0, 0, 0, 1], Some(3)),
+    (1, 0, &[1, 0, 3, 2], &[0, 0, 0, 0], Some(0)),
+    (1, 2, &[1, 0, 3, 2], &[0, 0, 0, 1], Some(2)),
+    (2, 1, &[1, 2, 0, 0, 2, 1], &[0, 1, 1], Some(2)),
+    (0, 0, &[], &[0], Some(0)),
+    (3, 2, &[], &[], None),
+];
 
 /// Tables of ids are read in place, with no gap, a small one and a large one after the units of a row.
 #[test]
 fn tables_in_place(rt: HostRuntime) -> Result<(), Fail> {
-    let rows: &[(usize, usize, &[u32], &[u32])] = &[
-        (1, 0, &[1, 2, 3, 3], &[0, 0, 0, 1]),
-        (1, 2, &[1, 0, 3, 2], &[0, 0, 0, 1]),
-        (2, 1, &[1, 2, 0, 0, 2, 1], &[0, 1, 1]),
-        (0, 0, &[], &[0]),
-        (3, 2, &[], &[]),
-    ];
-    for (units, stride2, next, labels) in rows {
-        let units = *units;
-        assert!(rt; *stride2 <= 10);
-        compared_in_place(
-            &rt,
-            rt.alloc(),
-            Table {
-                units,
-                next,
-                labels,
-            },
-            *stride2,
-        )?;
+    for (units, stride2, next, labels, want) in WORKED {
+        assert!(rt; stride2 <= 10);
+        let table = Table {
+            units,
+            next,
+            labels,
+        };
+        let greatest = compared_in_place(&rt, rt.alloc(), table, stride2)?;
+        assert!(rt; greatest == want, "{next:?}: {greatest:?}");
     }
     Ok(())
 }

@@ -4,7 +4,7 @@ ghost use Rattle.std.specs.Prelude.{IfOk};
 ghost use Rattle.rx_dense.specs.Facts.{IsSoundLayout};
 
 use crate::regex::shown;
-use rx_base::{Anchored, Input, MatchErrorKind, MatchKind, PatternID, PatternSet, StartKind};
+use rx_base::{Anchored, Input, MatchKind, PatternID, PatternSet, StartKind};
 use rx_build::dense;
 use rx_dense::OwnedDFA;
 use rx_expr::thompson;
@@ -96,7 +96,7 @@ impl Of {
     }
 }
 
-/// The result of a search by a pair: a match, none, or the error. A mismatch shows both halves.
+/// The result of a search by a pair: a match, none, or the text of the error.
 fn told(
     alloc: Global,
     regex: &Regex<OwnedDFA>,
@@ -112,27 +112,7 @@ fn told(
     let told = match regex.try_search(&input) {
         Ok(None) => format!(in alloc; "none")?,
         Ok(Some(m)) => format!(in alloc; "{} {} {}", m.pattern().as_u32(), m.start(), m.end())?,
-        Err(error) => match error.kind() {
-            MatchErrorKind::PairMismatch { forward, reverse } => {
-                let end = format!(in alloc;
-                    "{} up to {}",
-                    forward.pattern().as_u32(),
-                    forward.offset()
-                )?;
-                match reverse {
-                    None => format!(in alloc; "{end}, none")?,
-                    Some(half) => {
-                        format!(in alloc;
-                            "{end}, {} from {}",
-                            half.pattern().as_u32(),
-                            half.offset()
-                        )?
-                    }
-                }
-            }
-            MatchErrorKind::UnsupportedAnchored { mode } => format!(in alloc; "no {mode:?}")?,
-            _ => format!(in alloc; "{error}")?,
-        },
+        Err(error) => format!(in alloc; "{error}")?,
     };
     Ok(told)
 }
@@ -140,15 +120,24 @@ fn told(
 /// Two tables, a text, whether the search is anchored, and its result.
 type Pair = (Of, Of, &'static str, bool, &'static str);
 
+const NO_START_FOR_2: &str =
+    "no start for the end HalfMatch { pattern: PatternID { index: 0 }, offset: 2 }, but None";
+
 /// A search keeps the end of a forward match if the match is empty, if the search is anchored, or if the forward table
 /// is always anchored. Otherwise a reverse search of the second table from that end must find the same pattern.
 const PAIRS: &[Pair] = &[
-    (Forward("a"), Reverse("b"), "xa", false, "0 up to 2, none"),
+    (Forward("a"), Reverse("b"), "xa", false, NO_START_FOR_2),
     (Forward("a"), Reverse("b"), "ab", true, "0 0 1"),
     (Forward("^ a ."), Reverse("b"), "ab", false, "0 0 1"),
     (Forward("_"), Reverse("b"), "a", false, "0 0 0"),
     // with swapped roles, the reverse table is searched forward, and it has only anchored start states
-    (Reverse("b"), Forward("a"), "xa", false, "no No"),
+    (
+        Reverse("b"),
+        Forward("a"),
+        "xa",
+        false,
+        "searches in the mode No are not supported",
+    ),
     (Reverse("b"), Forward("a"), "ba", true, "0 0 1"),
     (Reverse("b"), Forward("a"), "xa", true, "none"),
     (
@@ -156,7 +145,7 @@ const PAIRS: &[Pair] = &[
         Forward("a"),
         "xb",
         false,
-        "0 up to 2, none",
+        NO_START_FOR_2,
     ),
     (ReverseOfBoth("b"), Forward("a"), "xa", false, "none"),
     // two forward tables: the second reads its patterns from their ends
@@ -167,7 +156,7 @@ const PAIRS: &[Pair] = &[
         Forward("ab"),
         "xab",
         false,
-        "0 up to 3, none",
+        "no start for the end HalfMatch { pattern: PatternID { index: 0 }, offset: 3 }, but None",
     ),
     (Forward("ab"), Forward("ab"), "ab", true, "0 0 2"),
     (
@@ -175,9 +164,16 @@ const PAIRS: &[Pair] = &[
         Forward("ab ba"),
         "xab",
         false,
-        "0 up to 3, 1 from 1",
+        "no start for the end HalfMatch { pattern: PatternID { index: 0 }, offset: 3 }, but Some(HalfMatch { pattern: \
+         PatternID { index: 1 }, offset: 1 })",
     ),
-    (Forward("a"), Anywhere("a"), "xa", false, "no Yes"),
+    (
+        Forward("a"),
+        Anywhere("a"),
+        "xa",
+        false,
+        "searches in the mode Yes are not supported",
+    ),
 ];
 
 #[test]

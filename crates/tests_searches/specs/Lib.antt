@@ -1,3 +1,0 @@
--- a table for tests
-pub mod Samples
-pub mod SampleFacts
