@@ -15,6 +15,4 @@ mod minimize;
 #[cfg(test)]
 mod order;
 #[cfg(test)]
-mod remapper;
-#[cfg(test)]
 mod sparse;

@@ -1,2 +1,0 @@
--- rows in a chain
-pub mod Chains

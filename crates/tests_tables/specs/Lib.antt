@@ -1,2 +1,0 @@
--- rows in a chain, for tests of renaming
-pub mod Chains
