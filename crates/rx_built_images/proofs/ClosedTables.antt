@@ -7,7 +7,7 @@ use Rattle.std.proofs.lemmas.List.Folds.{list_any_at}
 use Rattle.rx_search.specs.Starts.{IsId}
 use Rattle.rx_dense.specs.Specials.{is_accel_id}
 use Rattle.rx_dense.proofs.Rows.{id_at_row}
-use Rattle.rx_dense_image.proofs.IdTables.{dead_is, leaving_same, quit_is, quit_some}
+use Rattle.rx_image_parts.proofs.IdTables.{dead_is, leaving_same, quit_is, quit_some}
 use Rattle.rx_order.proofs.KindNumbers.{at_most}
 use Rattle.rx_sparse.specs.Rows.{Row, next_among, next_ids, no_range, no_row}
 use Rattle.rx_sparse.specs.Layouts.{Layout, ids_of, label_of_row, next_id, row_at, row_count, table_of}

@@ -2,7 +2,7 @@
 use Rattle.rx_spec.proofs.Prelude.{common_steps, ◌≡◌, ◌≢◌, ℕ, ◌≤◌, Bool, true, false, ◌||◌, List, refl, arith}
 use Rattle.rx_spec.proofs.Prelude.{if◌then◌else◌, cases_eq, or-true, Label}
 use Rattle.rx_order.proofs.KindNumbers.{at_most, high_kind}
-use Rattle.rx_dense_image.specs.Marks.{begins_after}
+use Rattle.rx_image_parts.specs.SpecialIds.{begins_after}
 
 -- ---- labels
 

@@ -24,3 +24,5 @@ pub mod ClosedTables
 -- so the sparse table of each dense one that can be read can be read too, and each that is built
 pub mod SparseWhole
 pub mod BuiltSparseTables
+-- the special ids of a dense table that can be read
+pub mod DenseSpecial

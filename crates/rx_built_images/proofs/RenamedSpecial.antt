@@ -6,7 +6,7 @@ use Rattle.rx_dense.specs.Specials.{greatest}
 use Rattle.rx_dense.specs.Layouts.{AreRows, IsRowId, Layout}
 use Rattle.rx_dense.specs.Builder.{renamed_id}
 use Rattle.rx_order.proofs.KindNumbers.{at_most}
-use Rattle.rx_dense_image.specs.Marks.{are_special, begins_after, is_past_quit, is_range}
+use Rattle.rx_image_parts.specs.SpecialIds.{are_special, begins_after, is_past_quit, is_range}
 use Rattle.rx_sparse.specs.Sparse.{AreSpecialRows, offsets_of, renamed_special}
 use Rattle.rx_sparse.proofs.SparseTables.{LieAlike, eq_alike, ids_alike, le_alike, lt_alike, renamed_zero}
 use Rattle.rx_sparse_build.proofs.Ordered.{greater, zero_row}

@@ -12,7 +12,7 @@ use Rattle.rx_sparse.specs.Sparse.{AreSpecialRows, offsets_of, sparse_len, spars
 use Rattle.rx_sparse.proofs.SparseShapes.{sparse_shaped}
 use Rattle.rx_sparse.proofs.SparseTables.{ids_same, renamed_is_id, sparse_sound}
 use Rattle.rx_sparse_image.specs.Tested.{IsWhole}
-use Rattle.rx_sparse_image.proofs.DenseSpecial.{special_rows}
+use Rattle.rx_built_images.proofs.DenseSpecial.{special_rows}
 use Rattle.rx_built_images.proofs.ClosedTables.{closed}
 use Rattle.rx_built_images.proofs.Ready.{IsReady}
 use Rattle.rx_built_images.proofs.RenamedSpecial.{special_same}

@@ -7,8 +7,8 @@ use Rattle.lemmas_walks.proofs.Firsts.{by_test}
 use Rattle.rx_search.specs.Starts.{IsId}
 use Rattle.rx_dense.specs.Specials.{is_accel_id, is_match_id, is_quit_id}
 use Rattle.rx_dense.proofs.Rows.{id_at_row}
-use Rattle.rx_dense_image.specs.Closing.{is_named}
-use Rattle.rx_dense_image.specs.StartTables.{IsAtMost}
+use Rattle.rx_image_parts.specs.SpecialIds.{is_named}
+use Rattle.rx_image_parts.specs.StartTables.{IsAtMost}
 use Rattle.rx_order.proofs.KindNumbers.{at_most}
 use Rattle.rx_sparse.specs.Rows.{Row, is_some_list, row_len, rows_len}
 use Rattle.rx_sparse.specs.Layouts.{IsRow, Layout, ids_of, row_at, row_count, table_of}

@@ -7,9 +7,10 @@ use Rattle.rx_order.specs.RowOrder.{IsRange}
 use Rattle.rx_order.proofs.KindNumbers.{at_most}
 use Rattle.rx_dense_image.specs.Marks.{AreReadAccels}
 use Rattle.rx_dense_image.specs.Closing.{accels_stand, has_needles, leaves, leaving_id, range_len}
-use Rattle.rx_dense_image.proofs.EachBelow.{all_of}
-use Rattle.rx_dense_image.proofs.IdTables.{id_table, leaving_same}
-use Rattle.rx_dense_image.proofs.LeavingBytes.{leaving_is}
+use Rattle.rx_image_parts.proofs.EachBelow.{all_of}
+use Rattle.rx_image_parts.proofs.IdTables.{leaving_same}
+use Rattle.rx_dense_image.proofs.IdTables.{id_table}
+use Rattle.rx_dense_image.proofs.LeavingRows.{leaving_is}
 use Rattle.rx_built_images.proofs.RangeRows.{range_at}
 
 -- ---- needles

@@ -13,9 +13,9 @@ use Rattle.rx_order.proofs.KindNumbers.{at_most}
 use Rattle.rx_dense_image.specs.PatternLists.{AreReadLists}
 use Rattle.rx_dense_image.specs.Closing.{is_list, lists_stand}
 use Rattle.rx_dense_image.specs.Images.{pattern_lists_of}
-use Rattle.rx_dense_image.proofs.ClosedFacts.{each_at}
-use Rattle.rx_dense_image.proofs.EachBelow.{all_of}
-use Rattle.rx_dense_image.proofs.ReadAgain.{words_below}
+use Rattle.rx_image_parts.proofs.EachBelow.{each_at}
+use Rattle.rx_image_parts.proofs.EachBelow.{all_of}
+use Rattle.rx_image_parts.proofs.ReadAgain.{words_below}
 use Rattle.rx_built_images.proofs.Places.{all_places}
 use Rattle.rx_built_images.proofs.RangeRows.{IsRowAt, range_at}
 

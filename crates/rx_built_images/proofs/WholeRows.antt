@@ -10,7 +10,7 @@ use Rattle.rx_dense.proofs.Rows.{quotient, stride_few}
 use Rattle.rx_order.proofs.KindNumbers.{at_most}
 use Rattle.rx_dense_image.specs.Rows.{AreReadRows, is_entry, rows_of}
 use Rattle.rx_dense_image.specs.Closing.{rows_stand}
-use Rattle.rx_dense_image.proofs.EachBelow.{all_of}
+use Rattle.rx_image_parts.proofs.EachBelow.{all_of}
 use Rattle.rx_order.proofs.UsedColumns.{column_used}
 use Rattle.rx_built_images.proofs.Places.{all_places, low_dead, not_both, row_below}
 

@@ -9,14 +9,16 @@ use Rattle.rx_dense.proofs.Rows.{multiple_within, quotient, row-below}
 use Rattle.rx_order.specs.RowOrder.{IsOrdered, IsRange, is_marked, is_start_row, kind_of}
 use Rattle.rx_order.proofs.KindNumbers.{at_most, high_kind, kind_high, label_match}
 use Rattle.rx_order.proofs.MarkedRows.{start_row_plain}
-use Rattle.rx_dense_image.proofs.SpecialTests.{within_of}
-use Rattle.rx_dense_image.proofs.IdTables as by_ids
-use Rattle.rx_dense_image.proofs.IdTables.{IdTable, id_table}
+use Rattle.rx_image_parts.proofs.SpecialTests.{within_of}
+use Rattle.rx_image_parts.proofs.IdTables as by_ids
+use Rattle.rx_image_parts.proofs.IdTables.{IdTable}
+use Rattle.rx_dense_image.proofs.IdTables.{id_table}
 use Rattle.rx_sparse.specs.Sparse.{AreSpecialRows}
 use Rattle.rx_sparse_build.proofs.Ordered.{special_rows}
-use Rattle.rx_dense_image.specs.Marks.{are_special, begins_after, is_past_quit, is_range}
-use Rattle.rx_dense_image.specs.Closing.{are_named, are_special_rows, is_named}
-use Rattle.rx_dense_image.proofs.EachBelow.{all_of}
+use Rattle.rx_image_parts.specs.SpecialIds.{are_special, begins_after, is_past_quit, is_range}
+use Rattle.rx_image_parts.specs.SpecialIds.{is_named}
+use Rattle.rx_dense_image.specs.Closing.{are_named, are_special_rows}
+use Rattle.rx_image_parts.proofs.EachBelow.{all_of}
 use Rattle.rx_built_images.proofs.KindTests.{accelerated_low, after_of, low_accelerated, low_matches, matches_low}
 use Rattle.rx_built_images.proofs.Places.{rows_rise}
 use Rattle.rx_built_images.proofs.WholeRows.{row_id_passes}

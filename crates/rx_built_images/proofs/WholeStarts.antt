@@ -9,10 +9,10 @@ use Rattle.rx_dense.specs.Layouts.{IsRowId, IsShaped, Layout, is_row_id, label_o
 use Rattle.rx_dense.specs.Layouts.{start_id, stride, table_of}
 use Rattle.rx_dense.proofs.Rows.{id_few, quotient}
 use Rattle.rx_dense.proofs.Shaped.{zero_id}
-use Rattle.rx_dense_image.specs.StartTables.{IsAtMost, IsReadStartTable}
+use Rattle.rx_image_parts.specs.StartTables.{IsAtMost, IsReadStartTable}
 use Rattle.rx_dense_image.specs.Closing.{is_start_row, is_universal, starts_stand}
 use Rattle.rx_dense_image.specs.Images.{start_table_of}
-use Rattle.rx_dense_image.proofs.IdTables.{start_is}
+use Rattle.rx_image_parts.proofs.IdTables.{start_is}
 use Rattle.rx_built_images.proofs.Places.{all_places}
 use Rattle.rx_built_images.proofs.StartEntries.{entry_at, few_starts, plain_passes}
 use Rattle.rx_built_images.proofs.WholeRows.{row_id_passes}

@@ -9,7 +9,7 @@ ghost use Rattle.rx_dense_image.specs.Images.{IsWhole as IsWholeDense};
 ghost use Rattle.rx_build.specs.Settings.{Settled};
 ghost use Rattle.rx_built_images.specs.Finished.{IsFinished};
 ghost use Rattle.rx_sparse.specs.Layouts.{Stored};
-ghost use Rattle.rx_sparse.specs.Sparse.{sparse_len, sparse_of};
+ghost use Rattle.rx_sparse.specs.Sparse.{AreSpecialRows, sparse_len, sparse_of};
 ghost use Rattle.rx_sparse_build.specs.Built.{IsSparse};
 ghost use Rattle.rx_sparse_image.specs.Tested.{IsWhole};
 
@@ -29,4 +29,11 @@ pub fn finished_tables_are_whole()
 /// which is an invariant of its type.
 pub fn built_tables_are_whole()
     ensures { (s : Settled) (nfa : Nfa) (t : Stored) → s.quit < 2 ^ 256 → IsSparse s nfa t → IsWhole t.layout }
+{}
+
+/// The special ids of a dense table that can be read are ids of rows, which `to_sparse` requires. `rx_dense_image`
+/// reads only such tables.
+#[tactic(auto, using(crate::proofs::DenseSpecial::special_rows))]
+pub fn special_ids_are_rows()
+    ensures { (l : Layout) → IsWholeDense l → AreSpecialRows l }
 {}

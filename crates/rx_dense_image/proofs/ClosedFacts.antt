@@ -1,13 +1,13 @@
 -- What the closing tests say, as facts.
-use Rattle.rx_spec.proofs.Prelude.{arith, ◌≡◌, ℕ, ◌+◌, ◌-◌, ◌*◌, ◌/◌, ◌<◌, ◌≤◌, Bool, true, leb, eqb, List, length}
-use Rattle.rx_spec.proofs.Prelude.{take, slice_index, get_or, common_steps, list_all, range_with_len, and_parts}
-use Rattle.rx_spec.proofs.Prelude.{eqb-true, leb-true, max_id}
+use Rattle.rx_spec.proofs.Prelude.{◌≡◌, ℕ, ◌+◌, ◌-◌, ◌*◌, ◌/◌, ◌<◌, ◌≤◌, true, leb, eqb, length, take, slice_index}
+use Rattle.rx_spec.proofs.Prelude.{get_or, list_all, range_with_len, and_parts, eqb-true, leb-true, max_id}
 use Rattle.rx_dense.specs.Layouts.{Layout, row_count, stride}
 use Rattle.rx_dense_image.specs.Rows.{are_entries, have_ids, is_entry, rows_of}
 use Rattle.rx_dense_image.specs.Closing.{accels_stand, are_lists, are_named, are_special_rows, has_needles, is_closed}
-use Rattle.rx_dense_image.specs.Closing.{is_list, is_named, is_start_row, is_universal, lead_to_dead, lists_stand}
-use Rattle.rx_dense_image.specs.Closing.{range_len, rows_stand, special_stand, starts_stand}
-use Rattle.rx_dense_image.proofs.EachBelow.{all_at}
+use Rattle.rx_dense_image.specs.Closing.{is_list, is_start_row, is_universal, lead_to_dead, lists_stand, range_len}
+use Rattle.rx_dense_image.specs.Closing.{rows_stand, special_stand, starts_stand}
+use Rattle.rx_image_parts.specs.SpecialIds.{is_named}
+use Rattle.rx_image_parts.proofs.EachBelow.{all_at, each_at}
 use Rattle.rx_dense_image.proofs.AccelRows.{AreSpecialRows, special_rows}
 
 pub record AreClosed (l : Layout) : Type 0 where
@@ -22,9 +22,6 @@ pub record AreClosed (l : Layout) : Type 0 where
   pub lists : (i : ℕ) → i < length l.slices / 2 → is_list l i ≡ true
   pub accel_count : length l.accels ≡ range_len l l.special.min_accel l.special.max_accel
   pub needles : (i : ℕ) → i < length l.accels → has_needles l i ≡ true
-
-pub each_at : (p : ℕ → Bool) (xs : List ℕ) (k : ℕ) → list_all p xs ≡ true → k < length xs → p (get_or xs k 0) ≡ true
-each_at p xs k test lt = grind (arith, common_steps)
 
 pub closed : (l : Layout) → is_closed l ≡ true → AreClosed l
 closed l test =

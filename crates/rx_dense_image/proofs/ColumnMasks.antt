@@ -1,15 +1,15 @@
 -- The columns of rows go round with the rows, and what stands in them is what the rows are asked for.
-use Rattle.rx_spec.proofs.Prelude.{common_steps, ◌≡◌, ℕ, zero, suc, ◌+◌, ◌-◌, ◌*◌, ◌%◌, ◌^◌, ◌<◌, ◌≤◌, Bool, true}
-use Rattle.rx_spec.proofs.Prelude.{false, cond, not, ◌&&◌, ltb, leb, eqb, List, length, get_or, take, drop, bit_and}
-use Rattle.rx_spec.proofs.Prelude.{◌∙◌, arith, w32, list_all, range_with_len, get_or-drop}
+use Rattle.rx_spec.proofs.Prelude.{common_steps, ◌≡◌, ℕ, zero, suc, ◌-◌, ◌%◌, ◌^◌, ◌<◌, ◌≤◌, Bool, true, false, cond}
+use Rattle.rx_spec.proofs.Prelude.{not, ◌&&◌, ltb, leb, eqb, List, length, bit_and, ◌∙◌, arith, list_all}
+use Rattle.rx_spec.proofs.Prelude.{range_with_len}
 use Rattle.std.proofs.lemmas.Nat.{and_mask, and_le_r}
-use Rattle.rx_wire.specs.declared.order.Order.{Order}
-use Rattle.rx_wire.specs.Fields.{number}
 use Rattle.rx_base.specs.ByteClasses.{alphabet_len}
-use Rattle.rx_dense_image.specs.Rows.{Rows, are_entries, cleared, is_entry, word_at}
+use Rattle.rx_image_parts.specs.Words.{word_at}
+use Rattle.rx_dense_image.specs.Rows.{Rows, are_entries, cleared, is_entry}
 use Rattle.rx_dense_image.specs.Bulk.{AreOf, column_forbidden, may_stand, stand_below, kept_word, word_stands}
 use Rattle.rx_dense_image.specs.declared.bulk.Columns.{Columns}
-use Rattle.rx_dense_image.proofs.EachBelow.{all_below}
+use Rattle.rx_image_parts.proofs.EachBelow.{all_below}
+use Rattle.rx_image_parts.proofs.WordBytes.{IsBytes, word_small}
 
 -- ---- 512 is a multiple of each stride
 
@@ -25,23 +25,6 @@ rounds (suc (suc (suc (suc (suc (suc (suc zero))))))) k h = omega arith
 rounds (suc (suc (suc (suc (suc (suc (suc (suc zero)))))))) k h = omega arith
 rounds (suc (suc (suc (suc (suc (suc (suc (suc (suc zero))))))))) k h = omega arith
 rounds (suc (suc (suc (suc (suc (suc (suc (suc (suc (suc n)))))))))) k h = absurd (omega arith)
-
--- ---- bytes make words
-
-abbrev pub IsBytes : List ℕ → Type 0
-IsBytes bytes = (i : ℕ) → get_or bytes i 0 < 256
-
-IsBytes-take : (n : ℕ) (bytes : List ℕ) → IsBytes bytes → IsBytes (take n bytes)
-IsBytes-take n bytes h i = grind (arith, common_steps)
-
-number_small : (order : Order) (bytes : List ℕ) → IsBytes bytes → number order w32 bytes < 2 ^ 32
-number_small Order.Little bytes fits = omega arith
-number_small Order.Big bytes fits = omega arith
-
-pub word_small : (order : Order) (bytes : List ℕ) (k : ℕ) → IsBytes bytes → word_at order bytes k < 2 ^ 32
-word_small order bytes k fits =
-    number_small order (take 4 (drop (4 * k) bytes))
-    (IsBytes-take 4 (drop (4 * k) bytes) (λ i. rw get_or-drop (fits ((4 * k) + i))))
 
 -- ---- what a mask keeps
 

@@ -1,38 +1,25 @@
 -- How many bytes the parts of an image have.
-use Rattle.rx_spec.proofs.Prelude.{common_steps, ◌≡◌, ℕ, ◌+◌, ◌*◌, List, [], ◌++◌, length, refl, arith, flat_map}
+use Rattle.rx_spec.proofs.Prelude.{common_steps, ◌≡◌, ℕ, ◌+◌, ◌*◌, List, ◌++◌, length, refl, arith, flat_map}
 use Rattle.rx_spec.proofs.Prelude.{length-append}
 use Rattle.rx_wire.specs.declared.order.Order.{Order}
-use Rattle.rx_wire.specs.Heads.{label_text}
 use Rattle.rx_wire.proofs.Words.{length-parts, length-words}
-use Rattle.rx_dense.specs.declared.flags.Flags.{Flags}
-use Rattle.rx_dense.specs.declared.special.Special.{Special}
 use Rattle.rx_dense.specs.Layouts.{Layout}
-use Rattle.rx_dense_image.specs.Heads.{dense_label, head_text}
+use Rattle.rx_image_parts.specs.Heads.{head_text}
+use Rattle.rx_dense_image.specs.Heads.{dense_label}
 use Rattle.rx_dense_image.specs.Rows.{Rows, rows_of, rows_text}
-use Rattle.rx_dense_image.specs.StartTables.{StartTable, start_table_text}
+use Rattle.rx_image_parts.specs.StartTables.{start_table_text}
 use Rattle.rx_dense_image.specs.PatternLists.{PatternLists, pattern_lists_text}
-use Rattle.rx_dense_image.specs.Marks.{Marks, accel_text, accels_text, marks_text, quit_text, special_text}
+use Rattle.rx_dense_image.specs.Marks.{Marks, accel_text, accels_text, marks_text}
 use Rattle.rx_dense_image.specs.Images.{image_len, marks_of, pattern_lists_of, start_table_of, text}
-
-pub length-head : (order : Order) (name : List ℕ) (flags : Flags) → length (label_text name) ≡ 32
-    → length (head_text order name flags) ≡ 48
-length-head order name flags label = grind (arith, common_steps)
+use Rattle.rx_image_parts.proofs.PartLengths.{length-head, length-start_table}
 
 length-rows : (order : Order) (rows : Rows) → length rows.classes ≡ 256
     → length (rows_text order rows) ≡ 264 + 4 * length rows.words
 length-rows order rows classes = grind (arith, common_steps, length-words)
 
-pub length-start_table : (order : Order) (table : StartTable) → length table.contexts ≡ 256
-    → length (start_table_text order table) ≡ 276 + 4 * length table.starts
-length-start_table order table contexts = grind (arith, common_steps, length-words)
-
 length-pattern_lists : (order : Order) (lists : PatternLists)
     → length (pattern_lists_text order lists) ≡ 12 + 4 * length lists.slices + 4 * length lists.pattern_ids
 length-pattern_lists order lists = grind (arith, common_steps, length-words)
-
-pub length-special : (order : Order) (s : Special) → length (special_text order s) ≡ 32
-length-special Order.Little s = refl
-length-special Order.Big s = refl
 
 pub length-accel : (needles : List ℕ) → length (accel_text needles) ≡ 8
 length-accel needles = grind (arith, common_steps)
@@ -42,9 +29,6 @@ length-each accels = length-parts accel_text 8 length-accel accels
 
 pub length-accels : (order : Order) (accels : List (List ℕ)) → length (accels_text order accels) ≡ 4 + 8 * length accels
 length-accels order accels = grind (arith, common_steps, length-each)
-
-pub length-quit : (order : Order) (quit : ℕ) → length (quit_text order quit) ≡ 32
-length-quit order quit = grind (arith, common_steps)
 
 length-marks : (order : Order) (marks : Marks) → length (marks_text order marks) ≡ 68 + 8 * length marks.accels
 length-marks order marks = grind (arith, common_steps, length-each)

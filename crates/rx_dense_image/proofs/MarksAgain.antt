@@ -1,52 +1,18 @@
--- What was written is read again: special ids, needles and quit bytes.
-use Rattle.rx_spec.proofs.Prelude.{common_steps, ◌≡◌, ℕ, ◌+◌, ◌*◌, ◌^◌, ◌<◌, ◌≤◌, List, [], ◌∷◌, ◌++◌, length, get_or}
-use Rattle.rx_spec.proofs.Prelude.{drop, map, true, Ok, refl, sym, ap, subst, ◌∙◌, append_assoc, arith, flat_map}
-use Rattle.rx_spec.proofs.Prelude.{range_with_len, w32, lt-ltb, append-nil, fill_by_all, max_id}
+-- What was written is read again: needles, and all marks.
+use Rattle.rx_spec.proofs.Prelude.{common_steps, ◌≡◌, ℕ, ◌+◌, ◌*◌, ◌<◌, ◌≤◌, List, [], ◌∷◌, ◌++◌, length, get_or}
+use Rattle.rx_spec.proofs.Prelude.{drop, map, Ok, refl, sym, ap, subst, ◌∙◌, append_assoc, arith, flat_map}
+use Rattle.rx_spec.proofs.Prelude.{range_with_len, w32, append-nil, fill_by_all}
 use Rattle.rx_wire.specs.declared.order.Order.{Order}
 use Rattle.rx_wire.specs.Kinds.{Reads}
 use Rattle.rx_wire.specs.Fields.{bytes_at, field}
 use Rattle.rx_wire.proofs.Words.{part_there}
-use Rattle.rx_wire.proofs.Fields.{bytes_again, id_again, u128_again, u32_again}
-use Rattle.rx_dense.specs.declared.special.Special.{Special}
-use Rattle.rx_dense_image.specs.Marks.{AreReadMarks, Marks, accel_text, accels_at, accels_text, are_special, id_pair_at}
-use Rattle.rx_dense_image.specs.Marks.{marks_at, marks_text, needles_in, needles_of, quit_at, quit_text, special_at}
-use Rattle.rx_dense_image.specs.Marks.{special_ids_at, special_text}
-use Rattle.rx_dense_image.proofs.ImageLengths.{length-accel, length-each, length-special}
-
--- ---- special ids
-
--- each is an id
-pub record AreSpecialIds (s : Special) : Type 0 where
-  pub max : s.max ≤ max_id
-  pub quit : s.quit ≤ max_id
-  pub min_match : s.min_match ≤ max_id
-  pub max_match : s.max_match ≤ max_id
-  pub min_accel : s.min_accel ≤ max_id
-  pub max_accel : s.max_accel ≤ max_id
-  pub min_start : s.min_start ≤ max_id
-  pub max_start : s.max_start ≤ max_id
-
-id_pair_again : (order : Order) (first last : ℕ) → first ≤ max_id → last ≤ max_id
-    → (rest : List ℕ)
-    → id_pair_at order (field order w32 first ++ (field order w32 last ++ rest)) ≡ Ok ((first, last), rest)
-unfolding id_pair_at
-id_pair_again order first last a b rest = grind (arith, common_steps, id_again)
-
-special_ids_again : (order : Order) (s : Special) → AreSpecialIds s
-    → Reads (special_ids_at order) (special_text order s) s
-unfolding special_ids_at
-special_ids_again order s h rest = grind (arith, common_steps, id_pair_again)
-
-pub special_again : (order : Order) (len : ℕ) (s : Special) → are_special s ≡ true → s.max < len → AreSpecialIds s
-    → Reads (special_at order len) (special_text order s) s
-unfolding special_at
-special_again order len s special within ids rest =
-    let text : List ℕ = special_text order s in
-    let front : bytes_at 32 (text ++ rest) ≡ Ok (text, rest) =
-    subst (λ (n : ℕ). bytes_at n (text ++ rest) ≡ Ok (text, rest)) (length-special order s) (bytes_again text rest) in
-    let read : special_ids_at order text ≡ Ok (s, []) =
-    ap (special_ids_at order) (sym (append-nil text)) ∙ special_ids_again order s ids [] in
-    rw (front, read, special, lt-ltb _ _ within) refl
+use Rattle.rx_wire.proofs.Fields.{bytes_again, u32_again}
+use Rattle.rx_dense_image.specs.Marks.{AreReadMarks, Marks, accel_text, accels_at, accels_text, marks_at, marks_text}
+use Rattle.rx_dense_image.specs.Marks.{needles_in, needles_of}
+use Rattle.rx_image_parts.specs.QuitBytes.{quit_text}
+use Rattle.rx_image_parts.specs.SpecialIds.{special_text}
+use Rattle.rx_dense_image.proofs.ImageLengths.{length-accel, length-each}
+use Rattle.rx_image_parts.proofs.SpecialAgain.{AreSpecialIds, quit_again, special_again}
 
 -- ---- needles
 
@@ -80,12 +46,6 @@ accels_again order word_len marks h rest =
     let same : accels ≡ map (needles_in each) (range_with_len 0 (length accels)) =
     fill_by_all (needles_in each) accels (length accels) [] refl at in
     grind (arith, common_steps, u32_again)
-
--- ---- quit bytes
-
-pub quit_again : (order : Order) (quit : ℕ) → quit < 2 ^ 256 → Reads (quit_at order) (quit_text order quit) quit
-unfolding quit_at
-quit_again order quit small rest = grind (arith, common_steps, u128_again)
 
 -- ---- all of them
 

@@ -2,10 +2,8 @@
 use Rattle.rx_spec.proofs.Prelude.{common_steps, ◌≡◌, ℕ, ◌*◌, ◌/◌, ◌%◌, ◌^◌, ◌<◌, ◌≤◌, List, length, map, sym, ap}
 use Rattle.rx_spec.proofs.Prelude.{subst, ◌∙◌, arith, range_with_len, mul-div_cancel, mul-mod_left}
 use Rattle.rx_spec.proofs.Prelude.{get_or-map-range_with_len, length-map-range_with_len, pow_pos}
-use Rattle.rx_wire.specs.declared.order.Order.{Order}
 use Rattle.rx_base.specs.ByteClasses.{AreClasses, alphabet_len}
-use Rattle.rx_dense_image.specs.Rows.{ArePadded, AreWords, words_of, AreReadRows, IsStride, Rows, cleared}
-use Rattle.rx_dense_image.proofs.ColumnMasks.{IsBytes, word_small}
+use Rattle.rx_dense_image.specs.Rows.{ArePadded, AreReadRows, IsStride, Rows, cleared}
 
 -- words that were cleared
 pub padded : (stride alphabet count : ℕ) (word : ℕ → ℕ) (words : List ℕ)
@@ -39,10 +37,3 @@ read_rows {rows} {bytes} {count} {stride} h =
       few = subst (λ (n : ℕ). n < 2 ^ 32) (sym rows_len) h.few;
       padded = h.padded;
     }
-
--- ---- words of bytes
-
-pub words_fit : (order : Order) (bytes : List ℕ) (count : ℕ) (words : List ℕ) → IsBytes bytes
-    → words ≡ words_of order bytes count → AreWords words
-words_fit order bytes count words fits is i =
-    grind (arith, common_steps, length-map-range_with_len, get_or-map-range_with_len, word_small)

@@ -1,19 +1,14 @@
 -- A layout that is read and closed has the shape of every dense table.
-use Rattle.rx_spec.proofs.Prelude.{common_steps, ◌≡◌, ℕ, ◌+◌, ◌*◌, ◌/◌, ◌%◌, ◌<◌, ◌≤◌, not, ltb, eqb, Option, Some}
-use Rattle.rx_spec.proofs.Prelude.{None, length, slice_index, sym, subst, arith, and_parts, leb-true, id_count, max_id}
-use Rattle.rx_dense.specs.Layouts.{AreLists, AreRows, AreStarts, IsRowId, IsShaped, Layout, is_row_id, start_entries}
-use Rattle.rx_dense.specs.Layouts.{stride}
-use Rattle.rx_dense_image.specs.StartTables.{IsAtMost}
+use Rattle.rx_spec.proofs.Prelude.{common_steps, ◌≡◌, ℕ, ◌+◌, ◌*◌, ◌/◌, ◌%◌, ◌<◌, ◌≤◌, not, ltb, eqb, length}
+use Rattle.rx_spec.proofs.Prelude.{slice_index, sym, subst, arith, and_parts, leb-true, max_id}
+use Rattle.rx_dense.specs.Layouts.{AreLists, AreRows, AreStarts, IsRowId, IsShaped, Layout, is_row_id, stride}
 use Rattle.rx_dense_image.specs.Images.{IsRead, IsWhole}
 use Rattle.rx_dense_image.proofs.AccelRows.{row_id_of}
 use Rattle.rx_dense_image.proofs.ClosedFacts.{AreClosed, closed}
+use Rattle.rx_image_parts.proofs.PartLengths.{few_starts}
 
 two_rows : (n s : ℕ) → n % s ≡ 0 → 2 ≤ n / s → 2 * s ≤ n
 two_rows n s whole two = grind (arith, common_steps)
-
-pub few_starts : (o : Option ℕ) → IsAtMost id_count o → start_entries o ≤ 12 + 6 * (max_id + 1)
-few_starts None most = omega arith
-few_starts (Some n) most = omega arith
 
 module _ (l : Layout) (read : IsRead l) (facts : AreClosed l) where
   pub word_row : (k : ℕ) → k < length l.words → IsRowId l (slice_index l.words k)

@@ -1,11 +1,11 @@
 -- A layout that is read and closed is a sound table.
-use Rattle.rx_spec.proofs.Prelude.{common_steps, ◌≡◌, ◌≢◌, ℕ, ◌+◌, ◌-◌, ◌*◌, ◌/◌, ◌%◌, ◌<◌, ◌≤◌, not, Bool, true, false}
-use Rattle.rx_spec.proofs.Prelude.{cond, ltb, leb, eqb, Option, Some, None, List, [], length, get_or, slice_index}
-use Rattle.rx_spec.proofs.Prelude.{Contains, refl, sym, ap, subst, ◌∙◌, arith, inl, inr, Result, Ok, Err, IfOk}
-use Rattle.rx_spec.proofs.Prelude.{list_all, bytes_eq, mul-div_cancel, mul-mod_left, and_parts, eq-eqb, eqb-true}
-use Rattle.rx_spec.proofs.Prelude.{le-ltb, leb-true, ltb-true, ne_eqb, cases_Bool, not-true, get_or-take, length-take}
-use Rattle.rx_spec.proofs.Prelude.{All-contains, mod-mul-add, pow_pos, row_fits, bytes_eq-Decides, Label, Anchored}
-use Rattle.rx_spec.proofs.Prelude.{IsSound, IsTable, leaving}
+use Rattle.rx_spec.proofs.Prelude.{common_steps, ◌≡◌, ◌≢◌, ℕ, ◌+◌, ◌-◌, ◌*◌, ◌/◌, ◌%◌, ◌<◌, ◌≤◌, not, Bool, true}
+use Rattle.rx_spec.proofs.Prelude.{false, cond, ltb, leb, eqb, Option, Some, None, List, [], length, get_or}
+use Rattle.rx_spec.proofs.Prelude.{slice_index, Contains, refl, sym, ap, subst, ◌∙◌, arith, inl, inr, Result, Ok, Err}
+use Rattle.rx_spec.proofs.Prelude.{IfOk, list_all, bytes_eq, mul-div_cancel, mul-mod_left, and_parts, eq-eqb}
+use Rattle.rx_spec.proofs.Prelude.{eqb-true, le-ltb, leb-true, ltb-true, ne_eqb, cases_Bool, not-true, get_or-take}
+use Rattle.rx_spec.proofs.Prelude.{length-take, All-contains, mod-mul-add, pow_pos, row_fits, bytes_eq-Decides, Label}
+use Rattle.rx_spec.proofs.Prelude.{Anchored, IsSound, IsTable, leaving}
 use Rattle.std.proofs.lemmas.List.Sums.{AllPass-from_list_all}
 use Rattle.rx_spec.specs.declared.Start.{Start}
 use Rattle.rx_base.specs.ByteClasses.{alphabet_len}
@@ -13,15 +13,16 @@ use Rattle.rx_dense.specs.Specials.{is_accel_id, is_in_range, is_match_id}
 use Rattle.rx_dense.specs.Layouts.{IsRowId, IsShaped, Layout, is_row_id, label_of_id, needles_of_id, next_id}
 use Rattle.rx_dense.specs.Layouts.{patterns_at, place_in_range, row_count, start_id, stride, table_of, universal_row}
 use Rattle.rx_dense.proofs.Rows.{column_within, quotient, row-below, valid_id}
-use Rattle.rx_dense_image.specs.Marks.{is_range}
-use Rattle.rx_dense_image.specs.Closing.{has_needles, is_list, is_named, leaving_id, range_len}
+use Rattle.rx_image_parts.specs.SpecialIds.{is_range, is_named}
+use Rattle.rx_dense_image.specs.Closing.{has_needles, is_list, leaving_id, range_len}
 use Rattle.rx_dense_image.specs.Images.{IsRead, IsWhole}
-use Rattle.rx_dense_image.proofs.SpecialTests.{accel_range, match_range, range_begins, within_of}
-use Rattle.rx_dense_image.proofs.IdTables.{IdTable, dead_label, id_table, labels, leaving_same, next_row, patterns_of}
-use Rattle.rx_dense_image.proofs.IdTables.{place_below, quit_label, quit_only, special_is, start_is}
+use Rattle.rx_image_parts.proofs.SpecialTests.{accel_range, match_range, range_begins, within_of}
+use Rattle.rx_image_parts.proofs.IdTables.{IdTable, dead_label, leaving_same, patterns_of, quit_label, quit_only}
+use Rattle.rx_image_parts.proofs.IdTables.{special_is, start_is}
+use Rattle.rx_dense_image.proofs.IdTables.{id_table, next_row, place_below}
 use Rattle.rx_dense_image.proofs.ClosedFacts.{AreClosed, closed}
 use Rattle.rx_dense_image.proofs.ShapedImages.{shaped_of}
-use Rattle.rx_dense_image.proofs.LeavingBytes.{leaving_is}
+use Rattle.rx_dense_image.proofs.LeavingRows.{leaving_is}
 
 division : (d m s : ℕ) → 0 < s → d ≤ m → d / s < m / s + 1
 division d m s some le = grind arith

@@ -1,6 +1,6 @@
 -- Lists of pattern ids, tested by counts of numbers that are no ids of patterns.
 use Rattle.rx_spec.proofs.Prelude.{common_steps, ◌≡◌, ℕ, ◌+◌, ◌*◌, ◌<◌, ◌≤◌, Bool, true, false, not, ◌&&◌, ltb, leb}
-use Rattle.rx_spec.proofs.Prelude.{eqb, List, [], length, take, drop, refl, ap₂, slice_index, ◌∙◌, arith, list_all}
+use Rattle.rx_spec.proofs.Prelude.{eqb, List, length, take, drop, refl, ap₂, slice_index, ◌∙◌, arith, list_all}
 use Rattle.rx_spec.proofs.Prelude.{take-add, lt-ltb, ne_eqb, le-leb}
 use Rattle.rx_dense.specs.Layouts.{Layout}
 use Rattle.rx_dense_image.specs.Closing.{is_list}

@@ -1,14 +1,16 @@
 -- A whole image is read again, in either order, whatever follows, and its length is told.
-use Rattle.rx_spec.proofs.Prelude.{common_steps, ◌≡◌, ℕ, ◌+◌, ◌-◌, ◌<◌, ◌≤◌, true, List, ◌++◌, length, slice_index, Ok}
-use Rattle.rx_spec.proofs.Prelude.{refl, ap, ◌∙◌, append_assoc, arith, max_id}
+use Rattle.rx_spec.proofs.Prelude.{common_steps, ◌≡◌, ℕ, ◌<◌, ◌≤◌, true, List, ◌++◌, length, slice_index, Ok}
+use Rattle.rx_spec.proofs.Prelude.{refl, ap, ◌∙◌, arith, max_id}
 use Rattle.rx_wire.specs.declared.order.Order.{Order}
 use Rattle.rx_wire.specs.Kinds.{Reads}
 use Rattle.rx_dense.specs.declared.flags.Flags.{Flags}
 use Rattle.rx_dense.specs.Layouts.{AreRows, IsRowId, IsShaped, Layout, is_row_id}
 use Rattle.rx_dense.proofs.Rows.{id_few, valid_id}
-use Rattle.rx_dense_image.specs.Heads.{dense_head_at, dense_label, head_text}
-use Rattle.rx_dense_image.specs.Rows.{AreWords, Rows, rows_at, rows_of, rows_text}
-use Rattle.rx_dense_image.specs.StartTables.{StartTable, start_table_at, start_table_text}
+use Rattle.rx_image_parts.specs.Heads.{head_text}
+use Rattle.rx_dense_image.specs.Heads.{dense_head_at, dense_label}
+use Rattle.rx_image_parts.specs.Words.{AreWords}
+use Rattle.rx_dense_image.specs.Rows.{Rows, rows_at, rows_of, rows_text}
+use Rattle.rx_image_parts.specs.StartTables.{StartTable, start_table_at, start_table_text}
 use Rattle.rx_dense_image.specs.PatternLists.{PatternLists, pattern_lists_at, pattern_lists_text}
 use Rattle.rx_dense_image.specs.Marks.{Marks, marks_at, marks_text}
 use Rattle.rx_dense_image.specs.Images.{IsWhole, joined, marks_of, parts_at, pattern_lists_of, reads, start_table_of}
@@ -16,9 +18,12 @@ use Rattle.rx_dense_image.specs.Images.{text}
 use Rattle.rx_dense_image.proofs.AccelRows.{AreSpecialRows}
 use Rattle.rx_dense_image.proofs.ClosedFacts.{closed}
 use Rattle.rx_dense_image.proofs.ShapedImages.{shaped}
-use Rattle.rx_dense_image.proofs.ReadAgain.{dense_head_again, rows_again, words_below}
-use Rattle.rx_dense_image.proofs.TablesAgain.{pattern_lists_again, start_table_again}
-use Rattle.rx_dense_image.proofs.MarksAgain.{AreSpecialIds, marks_again}
+use Rattle.rx_image_parts.proofs.ReadAgain.{words_below, regrouped}
+use Rattle.rx_dense_image.proofs.ReadAgain.{dense_head_again, rows_again}
+use Rattle.rx_image_parts.proofs.TablesAgain.{start_table_again}
+use Rattle.rx_dense_image.proofs.ListsAgain.{pattern_lists_again}
+use Rattle.rx_image_parts.proofs.SpecialAgain.{AreSpecialIds}
+use Rattle.rx_dense_image.proofs.MarksAgain.{marks_again}
 
 -- ids of rows are words
 ids_words : (l : Layout) → AreRows l → (words : List ℕ)
@@ -55,10 +60,6 @@ parts_read : {bytes rest : List ℕ} {order : Order} {word_len : ℕ} (h : AreRe
     → parts_at bytes ≡ Ok (joined h.flags h.rows h.table h.lists h.marks, rest)
 unfolding parts_at
 parts_read h = rw (h.head_read, h.rows_read, h.table_read, h.lists_read, h.len, h.marks_read) refl
-
-pub regrouped : (a b c d e rest : List ℕ)
-    → (a ++ (b ++ (c ++ (d ++ e)))) ++ rest ≡ a ++ (b ++ (c ++ (d ++ (e ++ rest))))
-regrouped a b c d e rest = simp append_assoc refl
 
 parts_again : (order : Order) (l : Layout) → IsWhole l → Reads parts_at (text order l) l
 unfolding text

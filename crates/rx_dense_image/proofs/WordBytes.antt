@@ -1,12 +1,7 @@
--- The words of some bytes, and tests of each number below one.
-use Rattle.rx_spec.proofs.Prelude.{◌≡◌, ℕ, zero, suc, ◌+◌, ◌%◌, ◌<◌, ◌≤◌, Bool, ◌&&◌, List, [], ◌∷◌, ◌++◌, length}
-use Rattle.rx_spec.proofs.Prelude.{get_or, take, drop, refl, ap, ◌∙◌, arith, add-one, common_steps}
-use Rattle.rx_dense_image.specs.Bulk.{each_below}
-
--- the four bytes of a word
-pub four : {a b c : ℕ} (xs : List ℕ) (n : ℕ) → a ≡ n + 1 → b ≡ n + 2 → c ≡ n + 3 → n + 4 ≤ length xs
-    → take 4 (drop n xs) ≡ get_or xs n 0 ∷ (get_or xs a 0 ∷ (get_or xs b 0 ∷ (get_or xs c 0 ∷ [])))
-four {a} {b} {c} xs n ea eb ec long = grind (arith, common_steps)
+-- Columns of rounds, and tests of each number below one.
+use Rattle.rx_spec.proofs.Prelude.{◌≡◌, ℕ, zero, suc, ◌+◌, ◌%◌, ◌<◌, Bool, ◌&&◌, List, [], ◌∷◌, ◌++◌, length, get_or}
+use Rattle.rx_spec.proofs.Prelude.{refl, ap, ◌∙◌, arith, add-one, common_steps}
+use Rattle.rx_image_parts.specs.Below.{each_below}
 
 pub below_more : (p : ℕ → Bool) (i : ℕ) → each_below (i + 1) p ≡ (each_below i p && p i)
 below_more p i = rw add-one refl

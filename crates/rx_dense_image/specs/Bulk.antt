@@ -1,15 +1,10 @@
 -- How the words of rows are tested in bulk, without a branch.
-use Rattle.std.specs.Prelude.{◌≡◌, ℕ, zero, suc, ◌-◌, ◌%◌, ◌^◌, ◌<◌, ◌≤◌, ◌==◌, ◌&&◌, nat_lt, nat_le, Bool, true}
-use Rattle.std.specs.Prelude.{not}
-use Rattle.std.specs.Prelude.{List, length, slice_index, bit_and, if◌then◌else◌}
-use Rattle.rx_dense_image.specs.Rows.{word_at}
+use Rattle.std.specs.Prelude.{◌≡◌, ℕ, ◌-◌, ◌%◌, ◌^◌, ◌<◌, ◌≤◌, ◌==◌, ◌&&◌, nat_lt, nat_le, Bool, not, List, length}
+use Rattle.std.specs.Prelude.{slice_index, bit_and, if◌then◌else◌}
+use Rattle.rx_image_parts.specs.Words.{word_at}
 use Rattle.rx_dense_image.specs.declared.bulk.Columns.{Columns}
 use Rattle.rx_dense_image.specs.declared.bulk.Wrong.{Wrong}
-
--- a test of each number below one
-abbrev pub each_below : ℕ → (ℕ → Bool) → Bool
-each_below zero p = true
-each_below (suc n) p = each_below n p && p n
+use Rattle.rx_image_parts.specs.Below.{each_below}
 
 -- no bit below the stride, no word above the last row's id, and no word that is forbidden
 abbrev pub is_clean : (stride last : ℕ) → Wrong → Bool

@@ -1,13 +1,13 @@
 -- The tests of all parts of an image together. With them and the tests of each part the table is sound.
-use Rattle.std.specs.Prelude.{ℕ, ◌+◌, ◌-◌, ◌*◌, ◌/◌, ◌==◌, ◌&&◌, ◌||◌, nat_lt, nat_le, Bool, true}
-use Rattle.std.specs.Prelude.{not, if◌then◌else◌, Option, Some, None, List, [], length, take, filter, slice_index}
-use Rattle.std.specs.Prelude.{get_or}
+use Rattle.std.specs.Prelude.{ℕ, ◌+◌, ◌-◌, ◌*◌, ◌/◌, ◌==◌, ◌&&◌, nat_lt, nat_le, Bool, true, not, if◌then◌else◌}
+use Rattle.std.specs.Prelude.{Option, Some, None, List, [], length, take, filter, slice_index, get_or}
 use Rattle.std.specs.List.{list_all, range_with_len}
 use Rattle.std.specs.Str.{bytes_eq}
 use Rattle.rx_dense.specs.declared.special.Special.{Special}
-use Rattle.rx_dense.specs.Specials.{is_accel_id, is_match_id, is_start_id}
+use Rattle.rx_dense.specs.Specials.{is_match_id}
 use Rattle.rx_dense.specs.Layouts.{Layout, is_row_id, next_id, patterns_at, row_count, stride}
 use Rattle.rx_dense_image.specs.Rows.{are_entries, rows_of}
+use Rattle.rx_image_parts.specs.SpecialIds.{is_named}
 
 -- ---- rows
 
@@ -24,10 +24,6 @@ abbrev pub are_special_rows : Layout → Special → Bool
 are_special_rows l s =
     is_row_id l s.max && (s.quit == stride l) && is_row_id l s.min_match && is_row_id l s.max_match
     && is_row_id l s.min_accel && is_row_id l s.max_accel && is_row_id l s.min_start && is_row_id l s.max_start
-
--- dead, quit, or in a range
-abbrev pub is_named : Special → ℕ → Bool
-is_named s id = (id == 0) || (id == s.quit) || is_match_id s id || is_accel_id s id || is_start_id s id
 
 -- each row up to the greatest special one is named
 abbrev pub are_named : Layout → Bool

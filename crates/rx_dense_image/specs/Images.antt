@@ -5,9 +5,10 @@ use Rattle.rx_wire.specs.declared.order.Order.{Order}
 use Rattle.rx_wire.specs.Kinds.{Kind, ◌>>=◌}
 use Rattle.rx_dense.specs.declared.flags.Flags.{Flags}
 use Rattle.rx_dense.specs.Layouts.{Layout}
-use Rattle.rx_dense_image.specs.Heads.{dense_head_at, dense_label, head_text}
+use Rattle.rx_image_parts.specs.Heads.{head_text}
+use Rattle.rx_dense_image.specs.Heads.{dense_head_at, dense_label}
 use Rattle.rx_dense_image.specs.Rows.{AreReadRows, Rows, rows_at, rows_of, rows_text}
-use Rattle.rx_dense_image.specs.StartTables.{IsReadStartTable, StartTable, start_table_at, start_table_text}
+use Rattle.rx_image_parts.specs.StartTables.{IsReadStartTable, StartTable, start_table_at, start_table_text}
 use Rattle.rx_dense_image.specs.PatternLists.{AreReadLists, PatternLists, pattern_lists_at, pattern_lists_text}
 use Rattle.rx_dense_image.specs.Marks.{AreReadMarks, Marks, marks_at, marks_text}
 use Rattle.rx_dense_image.specs.Closing.{is_closed}

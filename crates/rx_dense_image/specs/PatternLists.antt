@@ -1,13 +1,13 @@
 -- The patterns of match rows in an image: for each match row the place and the length of its list among the pattern
 -- ids; the number of patterns; and the pattern ids.
-use Rattle.std.specs.Prelude.{◌≡◌, ℕ, ◌*◌, ◌/◌, ◌%◌, ◌^◌, ◌<◌, ◌≤◌, nat_le, if◌then◌else◌, List, ◌++◌, length}
-use Rattle.std.specs.Prelude.{Result, Ok, Err}
+use Rattle.std.specs.Prelude.{◌≡◌, ℕ, ◌*◌, ◌/◌, ◌%◌, ◌^◌, ◌<◌, ◌≤◌, nat_le, if◌then◌else◌, List, ◌++◌, length, Result}
+use Rattle.std.specs.Prelude.{Ok, Err}
 use Rattle.std.specs.Int.{w32}
 use Rattle.rx_wire.specs.declared.order.Order.{Order}
 use Rattle.rx_wire.specs.Kinds.{Kind, ◌>>=◌}
 use Rattle.rx_wire.specs.Fields.{field, number_at}
 use Rattle.rx_spec.specs.Causes.{id_count}
-use Rattle.rx_dense_image.specs.Rows.{AreWords, words_at, words_text}
+use Rattle.rx_image_parts.specs.Words.{AreWords, words_at, words_text}
 
 pub record PatternLists : Type 0 where
   pub slices : List ℕ

@@ -1,39 +1,16 @@
 -- The rows of a dense image: their number, the base-2 logarithm of the stride, the class of each byte, and the words.
-use Rattle.std.specs.Prelude.{◌≡◌, ℕ, ◌+◌, ◌-◌, ◌*◌, ◌/◌, ◌%◌, ◌^◌, ◌<◌, ◌≤◌, ◌==◌, ◌&&◌, ◌||◌, nat_lt, nat_le, Bool}
-use Rattle.std.specs.Prelude.{not}
-use Rattle.std.specs.Prelude.{if◌then◌else◌, List, ◌++◌, length, map, take, drop, slice_index, Result, Ok, Err}
-use Rattle.std.specs.List.{flat_map, list_all, range_with_len}
+use Rattle.std.specs.Prelude.{◌≡◌, ℕ, ◌-◌, ◌*◌, ◌/◌, ◌%◌, ◌^◌, ◌<◌, ◌≤◌, ◌==◌, ◌&&◌, nat_lt, nat_le, Bool, not}
+use Rattle.std.specs.Prelude.{if◌then◌else◌, List, ◌++◌, length, map, slice_index, Result, Ok, Err}
+use Rattle.std.specs.List.{list_all, range_with_len}
 use Rattle.std.specs.Int.{w32}
 use Rattle.rx_wire.specs.declared.order.Order.{Order}
 use Rattle.rx_wire.specs.Kinds.{Kind, ◌>>=◌}
-use Rattle.rx_wire.specs.Fields.{bytes_at, field, number, number_at}
+use Rattle.rx_wire.specs.Fields.{bytes_at, field, number_at}
 use Rattle.rx_base.specs.ByteClasses.{AreClasses, alphabet_len}
 use Rattle.rx_spec.specs.Causes.{max_id}
 use Rattle.rx_dense.specs.Layouts.{Layout}
-
--- ---- words
-
--- the word at a place
-abbrev pub word_at : Order → List ℕ → ℕ → ℕ
-word_at order bytes k = number order w32 (take 4 (drop (4 * k) bytes))
-
-abbrev pub words_of : Order → List ℕ → ℕ → List ℕ
-words_of order bytes count = map (word_at order bytes) (range_with_len 0 count)
-
--- each is a word
-abbrev pub AreWords : List ℕ → Type 0
-AreWords words = (i : ℕ) → slice_index words i < 2 ^ 32
-
--- so many words
-unfoldable pub words_at : Order → ℕ → List ℕ → Result (List ℕ × List ℕ) Kind
-words_at order count bytes = do
-  front ← bytes_at (4 * count) bytes
-  Ok (words_of order front.0 count, front.1)
-
-abbrev pub words_text : Order → List ℕ → List ℕ
-words_text order words = flat_map (field order w32) words
-
--- ---- rows
+use Rattle.rx_image_parts.specs.Words.{words_text, word_at}
+use Rattle.rx_image_parts.specs.Classes.{are_classes}
 
 -- The words of the rows are 0 past the alphabet, whatever an image has there.
 pub record Rows : Type 0 where
@@ -48,15 +25,6 @@ abbrev pub rows_text : Order → Rows → List ℕ
 rows_text order rows =
     field order w32 (length rows.words / 2 ^ rows.stride2)
     ++ (field order w32 rows.stride2 ++ (rows.classes ++ words_text order rows.words))
-
--- Classes begin at 0 and rise by 0 or 1. The word stands closed, since it goes over all bytes.
-abbrev pub follows : ℕ → ℕ → Bool
-follows before class = (class == before) || (class == before + 1)
-
-unfoldable pub are_classes : List ℕ → Bool
-are_classes classes =
-    (slice_index classes 0 == 0)
-    && list_all (λ b. follows (slice_index classes b) (slice_index classes (b + 1))) (range_with_len 0 255)
 
 abbrev pub fits_stride : ℕ → List ℕ → Bool
 fits_stride stride2 classes =

@@ -1,9 +1,9 @@
 //! Reads many words of rows in one loop that converts, masks, stores and tests them without a branch.
 
 ghost use Rattle.std.specs.Prelude.{◌≡◌, ℕ, ◌+◌, ◌*◌, ◌^◌, ◌<◌, ◌≤◌, ◌&&◌, bit_and, length, max, slice_index, IfOk};
-ghost use Rattle.rx_dense_image.specs.Bulk.{AreColumns, all_bits, each_below, is_clean, kept_word, may_stand};
-ghost use Rattle.rx_dense_image.specs.Bulk.{word_stands};
-ghost use Rattle.rx_dense_image.specs.Rows.{word_at};
+ghost use Rattle.rx_image_parts.specs.Below.{each_below};
+ghost use Rattle.rx_dense_image.specs.Bulk.{AreColumns, all_bits, is_clean, kept_word, may_stand, word_stands};
+ghost use Rattle.rx_image_parts.specs.Words.{word_at};
 
 use rx_wire::Order;
 use std::alloc::{AllocError, Global};
@@ -72,7 +72,7 @@ pub(crate) struct Columns<'a> {
 impl<'a> Columns<'a> {
     /// The word at an index, without the bits that its column drops.
     #[inline(always)]
-    #[tactic(auto, using(crate::proofs::WordBytes::four))]
+    #[tactic(auto, using(rx_image_parts::proofs::WordBytes::four))]
     fn word(&self, bytes: &[u8], place: usize, column: usize) -> u32
         requires bytes { 4 * place + 4 ≤ length bytes.now }
         requires column { column < length self.now.kept.now }

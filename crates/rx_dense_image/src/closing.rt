@@ -1,11 +1,9 @@
 //! The tests of all parts of an image together.
 
-ghost use Rattle.std.specs.Prelude.{◌≡◌, ℕ, ◌+◌, ◌*◌, ◌^◌, ◌<◌, ◌≤◌, ◌==◌, IfErr, IfOk, Option, length, map, nat_lt};
-ghost use Rattle.std.specs.Prelude.{not, take};
-ghost use Rattle.std.specs.Prelude.{count_by, slice_index, true, false, get_or, []};
+ghost use Rattle.std.specs.Prelude.{◌≡◌, ℕ, ◌+◌, ◌*◌, ◌^◌, ◌<◌, ◌≤◌, ◌==◌, IfErr, IfOk, Option, length, take};
+ghost use Rattle.std.specs.Prelude.{slice_index, true, false};
 ghost use Rattle.std.specs.List.{list_all};
 ghost use Rattle.std.specs.Str.{bytes_eq};
-ghost use Rattle.rx_spec.specs.Causes.{max_id};
 ghost use Rattle.rx_wire.specs.Kinds.{Kind};
 ghost use Rattle.rx_dense.specs.Parts.{layout_of};
 ghost use Rattle.rx_dense.specs.Specials.{is_in_range};
@@ -13,15 +11,15 @@ ghost use Rattle.rx_dense.specs.Layouts.{IsRowId, is_row_id, next_id, stride};
 ghost use Rattle.rx_dense_image.specs.Rows.{AreReadRows, are_entries, rows_of};
 ghost use Rattle.rx_dense_image.specs.PatternLists.{AreReadLists};
 ghost use Rattle.rx_dense_image.specs.Closing.{accels_stand, are_lists, are_named, are_special_rows, has_needles};
-ghost use Rattle.rx_dense_image.specs.Closing.{is_closed, is_list};
-ghost use Rattle.rx_dense_image.specs.Closing.{is_named, is_start_row, is_universal, lead_to_dead, leaving_id};
-ghost use Rattle.rx_dense_image.specs.Closing.{lists_stand};
-ghost use Rattle.rx_dense_image.specs.Closing.{range_len, rows_stand, special_stand, starts_stand};
+ghost use Rattle.rx_dense_image.specs.Closing.{is_closed, is_list, is_start_row, is_universal, leaving_id};
+ghost use Rattle.rx_dense_image.specs.Closing.{lists_stand, range_len, rows_stand, special_stand, starts_stand};
+ghost use Rattle.rx_image_parts.specs.SpecialIds.{is_named};
 ghost use Rattle.rx_dense_image.specs.Images.{IsRead, pattern_lists_of};
 ghost use Rattle.rx_dense_image.specs.Counts.{is_stranger, strangers};
 
 use rx_base::StateID;
 use rx_dense::{Parts, Special};
+use rx_image_parts::{is_in_range, is_named};
 use rx_wire::DeserializeError;
 use std::alloc::Global;
 
@@ -81,24 +79,6 @@ fn are_special_rows(parts: &Parts, s: &Special) -> bool
         && is_row_id(parts, s.max_accel.as_usize())
         && is_row_id(parts, s.min_start.as_usize())
         && is_row_id(parts, s.max_start.as_usize())
-}
-
-/// Whether an id lies between two, and is not that of the dead row.
-pub fn is_in_range(first: StateID, last: StateID, id: usize) -> bool
-    ensures { result ≡ is_in_range first last id }
-{
-    first.as_usize() <= id && id <= last.as_usize() && id != 0
-}
-
-/// Whether a row is dead, quit or in a special range.
-pub fn is_named(s: &Special, id: usize) -> bool
-    ensures { result ≡ is_named s.now id }
-{
-    id == 0
-        || id == s.quit.as_usize()
-        || is_in_range(s.min_match, s.max_match, id)
-        || is_in_range(s.min_accel, s.max_accel, id)
-        || is_in_range(s.min_start, s.max_start, id)
 }
 
 /// Whether each row up to the greatest special one is dead, quit or in a special range.

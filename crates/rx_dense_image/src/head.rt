@@ -1,18 +1,16 @@
-//! The head of an image.
+//! The head of a dense image.
 
 ghost use Rattle.std.specs.Prelude.{◌≡◌, ◌≤◌, ◌==◌, length, take, drop};
 ghost use Rattle.std.specs.List.{prefix_len};
 ghost use Rattle.rx_wire.specs.Kinds.{Gives};
-ghost use Rattle.rx_dense_image.specs.Heads.{dense_head_at, flags_of, head_at, skipped_nuls};
+ghost use Rattle.rx_dense_image.specs.Heads.{dense_head_at, skipped_nuls};
 
 use rx_dense::Flags;
-use rx_wire::{DeserializeError, Order, split_label, split_order};
+use rx_image_parts::split_head;
+use rx_wire::{DeserializeError, Order};
 
 /// The label of dense images.
 pub(crate) const LABEL: &str = "rust-regex-automata-dfa-dense";
-
-/// The version that is read and written.
-pub const VERSION: u32 = 2;
 
 /// The most NULs that may stand before the label.
 const MAX_NULS: usize = 7;
@@ -47,33 +45,6 @@ fn first(most: usize, bytes: &[u8]) -> &[u8]
         return bytes;
     }
     &bytes[..most]
-}
-
-/// The flags of a word. Bits without a meaning are ignored.
-fn flags_of(word: u32) -> Flags
-    ensures { result ≡ flags_of word }
-{
-    Flags {
-        has_empty: word & 1 == 1,
-        is_utf8: word >> 1 & 1 == 1,
-        is_always_start_anchored: word >> 2 & 1 == 1,
-    }
-}
-
-/// The flags, and the byte order of what follows the head.
-#[tactic(auto, unfolding(crate::specs::Heads::head_at))]
-pub fn split_head<'a>(
-    bytes: &'a [u8],
-    label: &'static str,
-) -> Result<((Flags, Order), &'a [u8]), DeserializeError>
-    ensures { Gives (λ x. (x.0, x.1.now)) result (head_at label.now bytes.now) }
-{
-    let (_, rest) = split_label(bytes, label)?;
-    let (order, rest) = split_order(rest)?;
-    let rest = order.split_version(rest, VERSION)?;
-    let (_, rest) = order.split_u32(rest, "unused space")?;
-    let (word, rest) = order.split_u32(rest, "flags")?;
-    Ok(((flags_of(word), order), rest))
 }
 
 /// The flags of a dense image, and the byte order of what follows its head.

@@ -4,11 +4,13 @@ ghost use Rattle.std.specs.Prelude.{◌≡◌, ℕ, IsOk, List, MatchResult, len
 ghost use Rattle.rx_wire.specs.Kinds.{GivesExactly, Kind, Writes};
 ghost use Rattle.rx_dense.specs.declared.special.Special.{Special};
 ghost use Rattle.rx_wire.specs.declared.order.Order.{Order};
-ghost use Rattle.rx_dense_image.specs.Marks.{accel_of, accels_text, are_special};
+ghost use Rattle.rx_image_parts.specs.SpecialIds.{are_special};
+ghost use Rattle.rx_dense_image.specs.Marks.{accel_of, accels_text};
 
-use crate::marks::{are_special, needles_of};
+use crate::marks::needles_of;
 use crate::put::{NeedleLists, put_accels};
 use rx_dense::{Accel, Accels, Special};
+use rx_image_parts::are_special;
 use rx_wire::{DeserializeError, Endian, SerializeError};
 
 /// Tests special ids: `special.validate()`.

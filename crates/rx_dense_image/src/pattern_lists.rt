@@ -1,12 +1,12 @@
 //! The patterns of match rows in an image.
 
-ghost use Rattle.std.specs.Prelude.{◌≡◌, ◌≤◌, IfOk};
+ghost use Rattle.std.specs.Prelude.{◌≤◌, IfOk};
 ghost use Rattle.rx_spec.specs.Causes.{id_count};
 ghost use Rattle.rx_wire.specs.Kinds.{Gives};
 ghost use Rattle.rx_dense_image.specs.PatternLists.{AreReadLists, pattern_len_at, pattern_lists_at};
 
-use crate::words::{count_of, split_words};
 use rx_base::PatternID;
+use rx_image_parts::{count_of, split_words};
 use rx_wire::{DeserializeError, Order};
 use std::alloc::Global;
 use std::marker::Model;

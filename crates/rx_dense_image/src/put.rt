@@ -2,61 +2,30 @@
 //!
 //! Each function writes a part at an index and returns the index after it.
 
-ghost use Rattle.std.specs.Prelude.{◌≡◌, ℕ, ◌+◌, ◌*◌, ◌/◌, ◌%◌, ◌^◌, ◌<◌, ◌≤◌, List, [], get_or, length, map};
-ghost use Rattle.std.specs.Int.{w32, w128};
-ghost use Rattle.rx_wire.specs.Fields.{field};
+ghost use Rattle.std.specs.Prelude.{◌≡◌, ℕ, ◌+◌, ◌*◌, ◌/◌, ◌^◌, ◌<◌, ◌≤◌, List, [], get_or, length, map};
 ghost use Rattle.rx_wire.specs.declared.order.Order.{Order};
 ghost use Rattle.rx_dense.specs.Layouts.{AreLists, AreStarts, context_number};
-ghost use Rattle.rx_dense_image.specs.Heads.{dense_label, flag, flags_word, head_text};
-ghost use Rattle.rx_dense_image.specs.Rows.{rows_of, rows_text, words_text};
-ghost use Rattle.rx_dense_image.specs.StartTables.{kind_number, number_or_none, start_table_text};
+ghost use Rattle.rx_image_parts.specs.Heads.{flags_word, head_text};
+ghost use Rattle.rx_dense_image.specs.Heads.{dense_label};
+ghost use Rattle.rx_image_parts.specs.Words.{words_text};
+ghost use Rattle.rx_dense_image.specs.Rows.{rows_of, rows_text};
+ghost use Rattle.rx_image_parts.specs.StartTables.{kind_number, number_or_none, start_table_text};
 ghost use Rattle.rx_dense_image.specs.PatternLists.{pattern_lists_text};
-ghost use Rattle.rx_dense_image.specs.Marks.{accel_text, accels_text, marks_text, quit_text, special_text};
+ghost use Rattle.rx_dense_image.specs.Marks.{accel_text, accels_text, marks_text};
 ghost use Rattle.rx_dense_image.specs.Images.{image_len, marks_of, pattern_lists_of, start_table_of, text};
-ghost use Rattle.rx_dense_image.specs.Written.{IsPut};
+ghost use Rattle.rx_image_parts.specs.Written.{IsPut};
 
-use crate::head::VERSION;
-use crate::start_table::{CONTEXTS, NONE};
-use rx_base::{ByteSet, Needles, Start, StartKind, StateID};
-use rx_dense::{Accels, DFA, Flags, Special, WordStore};
+use rx_base::Needles;
+use rx_dense::{Accels, DFA, Flags, WordStore};
+use rx_image_parts::{
+    CONTEXTS, ENDIANNESS, NONE, VERSION, context_number, flags_word, kind_number, put_plain,
+    put_quit, put_special, put_word, universal_word,
+};
 use rx_search::Automaton;
-use rx_wire::{Endian, put_bytes, put_u32, put_u128};
+use rx_wire::Endian;
 
 /// The label with its NUL and its padding.
 const LABEL: [u8; 32] = *b"rust-regex-automata-dfa-dense\0\0\0";
-
-/// The word that marks the byte order.
-pub const ENDIANNESS: u32 = 0xFEFF;
-
-/// Writes a number of four bytes.
-pub fn put_word<E: Endian>(word: u32, dst: &mut [u8], at: usize) -> usize
-    requires { at + 4 ≤ length dst.old }
-    ensures len { length dst.new ≡ length dst.old }
-    ensures place { result ≡ at + 4 }
-    ensures put { IsPut (field E.order w32 word) dst.old dst.new at result }
-{
-    put_u32::<E>(word, dst, at)
-}
-
-fn put_wide<E: Endian>(number: u128, dst: &mut [u8], at: usize) -> usize
-    requires { at + 16 ≤ length dst.old }
-    ensures len { length dst.new ≡ length dst.old }
-    ensures place { result ≡ at + 16 }
-    ensures put { IsPut (field E.order w128 number) dst.old dst.new at result }
-    ensures fits { number < 2 ^ 128 }
-{
-    put_u128::<E>(number, dst, at)
-}
-
-/// Writes bytes as they are.
-pub fn put_plain(bytes: &[u8], dst: &mut [u8], at: usize) -> usize
-    requires { at + length bytes.now ≤ length dst.old }
-    ensures len { length dst.new ≡ length dst.old }
-    ensures place { result ≡ at + length bytes.now }
-    ensures put { IsPut bytes.now dst.old dst.new at result }
-{
-    put_bytes(bytes, dst, at)
-}
 
 fn put_words<E: Endian>(words: &[u32], dst: &mut [u8], at: usize) -> usize
     requires { at + 4 * length words.now ≤ length dst.old }
@@ -69,22 +38,6 @@ fn put_words<E: Endian>(words: &[u32], dst: &mut [u8], at: usize) -> usize
         end = put_word::<E>(*word, dst, end);
     }
     end
-}
-
-/// A flag as a bit of a word: `worth` if it is set, otherwise 0.
-fn flag(set: bool, worth: u32) -> u32
-    requires { worth ≤ 4 }
-    ensures value { result ≡ flag set worth }
-    ensures bound { result ≤ worth }
-{
-    if set { worth } else { 0 }
-}
-
-/// Flags as a word.
-pub fn flags_word(flags: &Flags) -> u32
-    ensures { result ≡ flags_word flags.now }
-{
-    flag(flags.has_empty, 1) + flag(flags.is_utf8, 2) + flag(flags.is_always_start_anchored, 4)
 }
 
 fn put_head<E: Endian>(flags: &Flags, dst: &mut [u8], at: usize) -> usize
@@ -119,31 +72,6 @@ fn put_rows<E: Endian, T: WordStore>(dfa: &DFA<T>, dst: &mut [u8], at: usize) ->
     put_words::<E>(dfa.words(), dst, classes)
 }
 
-/// The number of a start kind.
-pub fn kind_number(kind: StartKind) -> u32
-    ensures { result ≡ kind_number kind }
-{
-    match kind {
-        StartKind::Both => 0,
-        StartKind::Unanchored => 1,
-        StartKind::Anchored => 2,
-    }
-}
-
-/// The number of a start context.
-pub fn context_number(context: Start) -> u8
-    ensures { result ≡ context_number context }
-{
-    match context {
-        Start::NonWordByte => 0,
-        Start::WordByte => 1,
-        Start::Text => 2,
-        Start::LineLF => 3,
-        Start::LineCR => 4,
-        Start::CustomLineTerminator => 5,
-    }
-}
-
 /// The numbers of all contexts.
 fn context_numbers<T: WordStore>(dfa: &DFA<T>) -> [u8; 256]
     requires { AreStarts dfa.now }
@@ -165,16 +93,6 @@ fn patterns_word<T: WordStore>(dfa: &DFA<T>) -> u32
     match dfa.start_pattern_len() {
         None => NONE,
         Some(patterns) => patterns as u32,
-    }
-}
-
-/// A universal start as a word, or the word for none.
-pub fn universal_word(start: Option<StateID>) -> u32
-    ensures { result ≡ number_or_none start }
-{
-    match start {
-        None => NONE,
-        Some(id) => id.as_u32(),
     }
 }
 
@@ -231,23 +149,6 @@ fn put_pattern_lists<E: Endian, T: WordStore>(dfa: &DFA<T>, dst: &mut [u8], at: 
     let patterns = put_word::<E>(pattern_len_word(dfa), dst, pairs);
     let count = put_word::<E>(id_word(dfa), dst, patterns);
     put_words::<E>(dfa.pattern_ids(), dst, count)
-}
-
-/// Writes the special ids.
-pub fn put_special<E: Endian>(special: &Special, dst: &mut [u8], at: usize) -> usize
-    requires { at + 32 ≤ length dst.old }
-    ensures len { length dst.new ≡ length dst.old }
-    ensures place { result ≡ at + 32 }
-    ensures put { IsPut (special_text E.order special.now) dst.old dst.new at result }
-{
-    let max = put_word::<E>(special.max.as_u32(), dst, at);
-    let quit = put_word::<E>(special.quit.as_u32(), dst, max);
-    let min_match = put_word::<E>(special.min_match.as_u32(), dst, quit);
-    let max_match = put_word::<E>(special.max_match.as_u32(), dst, min_match);
-    let min_accel = put_word::<E>(special.min_accel.as_u32(), dst, max_match);
-    let max_accel = put_word::<E>(special.max_accel.as_u32(), dst, min_accel);
-    let min_start = put_word::<E>(special.min_start.as_u32(), dst, max_accel);
-    put_word::<E>(special.max_start.as_u32(), dst, min_start)
 }
 
 /// The bytes of an accelerator.
@@ -314,18 +215,6 @@ pub(crate) fn put_accels<E: Endian, L: NeedleLists>(lists: &L, dst: &mut [u8], a
         end = put_plain(&accel, dst, end);
     }
     end
-}
-
-/// Writes the quit bytes.
-pub fn put_quit<E: Endian>(quitset: &ByteSet, dst: &mut [u8], at: usize) -> usize
-    requires { at + 32 ≤ length dst.old }
-    ensures len { length dst.new ≡ length dst.old }
-    ensures place { result ≡ at + 32 }
-    ensures put { IsPut (quit_text E.order quitset.now) dst.old dst.new at result }
-{
-    let (low, high) = quitset.halves();
-    let end = put_wide::<E>(low, dst, at);
-    put_wide::<E>(high, dst, end)
 }
 
 fn put_marks<E: Endian, T: WordStore>(dfa: &DFA<T>, dst: &mut [u8], at: usize) -> usize

@@ -1,19 +1,18 @@
 //! The rows of an image.
 
-ghost use Rattle.std.specs.Prelude.{◌≡◌, ℕ, ◌+◌, ◌-◌, ◌*◌, ◌%◌, ◌^◌, ◌<◌, ◌≤◌, length, slice_index, IfOk, IfErr};
-ghost use Rattle.std.specs.Prelude.{IfSome};
-ghost use Rattle.std.specs.Prelude.{is_some, map, nat_le, ◌&&◌};
+ghost use Rattle.std.specs.Prelude.{◌≡◌, ℕ, ◌-◌, ◌*◌, ◌%◌, ◌^◌, ◌<◌, ◌≤◌, length, slice_index, IfOk, IfErr, map};
+ghost use Rattle.std.specs.Prelude.{nat_le, ◌&&◌};
 ghost use Rattle.std.specs.List.{range_with_len};
-ghost use Rattle.rx_base.specs.ByteClasses.{AreClasses, alphabet_len};
+ghost use Rattle.rx_base.specs.ByteClasses.{alphabet_len};
 ghost use Rattle.rx_wire.specs.Kinds.{Gives, Kind};
 ghost use Rattle.rx_dense_image.specs.Bulk.{AreOf, column_forbidden, column_mask, is_clean, stand_below};
-ghost use Rattle.rx_dense_image.specs.Rows.{ArePadded, AreReadRows, IsStride, are_classes, are_entries, cleared};
-ghost use Rattle.rx_dense_image.specs.Rows.{cleared_words_at};
-ghost use Rattle.rx_dense_image.specs.Rows.{fits_stride, rows_at, stride_of, word_at};
+ghost use Rattle.rx_dense_image.specs.Rows.{ArePadded, AreReadRows, IsStride, are_entries, cleared, cleared_words_at};
+ghost use Rattle.rx_dense_image.specs.Rows.{fits_stride, rows_at, stride_of};
+ghost use Rattle.rx_image_parts.specs.Words.{word_at};
 
 use crate::bulk::{Columns, Wrong, all_bits};
-use crate::words::count_of;
 use rx_base::{ByteClasses, StateID};
+use rx_image_parts::{classes_of, count_of};
 use rx_wire::{DeserializeError, Order, split_bytes, split_items};
 use std::alloc::Global;
 use std::marker::Model;
@@ -38,16 +37,6 @@ impl Model for Rows {
     ghost Value = { Rows };
 
     ghost view = { λ r. record { classes = r.classes; stride2 = r.stride2; words = r.words.items } };
-}
-
-/// The classes that some bytes spell, or `None` if they spell none.
-pub fn classes_of(bytes: &[u8]) -> Option<ByteClasses>
-    requires { length bytes.now ≡ 256 }
-    ensures value { IfSome result (λ classes. classes ≡ bytes.now) }
-    ensures exactly { is_some result ≡ are_classes bytes.now }
-    ensures classes { IfSome result (λ _. AreClasses bytes.now) }
-{
-    ByteClasses::from_bytes(bytes)
 }
 
 /// Whether a row of this stride has a column for each class and one for the end of input.

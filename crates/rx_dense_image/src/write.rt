@@ -1,6 +1,6 @@
 //! Writes whole images.
 
-ghost use Rattle.std.specs.Prelude.{◌≡◌, ℕ, List, IfOk, length};
+ghost use Rattle.std.specs.Prelude.{◌≡◌, IfOk, length};
 ghost use Rattle.rx_wire.specs.declared.order.Order.{Order};
 ghost use Rattle.rx_wire.specs.declared.order.Order.TheVariants.{Little, Big};
 ghost use Rattle.rx_wire.specs.Kinds.{Writes};

@@ -9,11 +9,12 @@ use Rattle.rx_wire.specs.Kinds.{Reads}
 use Rattle.rx_wire.proofs.Fields.{u32_again}
 use Rattle.rx_wire.proofs.Heads.{label_again, order_again, version_again}
 use Rattle.rx_dense.specs.Layouts as dense
-use Rattle.rx_dense_image.specs.Heads.{dense_head_at, dense_label, head_text as dense_head_text}
+use Rattle.rx_image_parts.specs.Heads.{head_text as dense_head_text}
+use Rattle.rx_dense_image.specs.Heads.{dense_head_at, dense_label}
 use Rattle.rx_dense_image.specs.Images as dense_images
 use Rattle.rx_dense_image.specs.Images.{start_table_of, pattern_lists_of, marks_of}
 use Rattle.rx_dense_image.specs.Rows.{rows_of, rows_text}
-use Rattle.rx_dense_image.specs.StartTables.{start_table_text}
+use Rattle.rx_image_parts.specs.StartTables.{start_table_text}
 use Rattle.rx_dense_image.specs.PatternLists.{pattern_lists_text}
 use Rattle.rx_dense_image.specs.Marks.{marks_text}
 use Rattle.rx_dense_image.proofs.ReadAgain.{dense_head_again}

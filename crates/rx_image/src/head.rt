@@ -12,7 +12,7 @@ ghost use Rattle.std.specs.Int.{w32};
 ghost use Rattle.rx_wire.specs.Kinds.{GivesExactly};
 ghost use Rattle.rx_image.specs.Pairs.{form_number, form_of, head_at, head_text, is_same_order};
 
-use rx_dense_image::both::{ENDIANNESS, put_plain, put_word};
+use rx_image_parts::{ENDIANNESS, put_plain, put_word};
 use rx_spec::Form;
 use rx_wire::{DeserializeError, Endian, Order, split_label, split_order};
 

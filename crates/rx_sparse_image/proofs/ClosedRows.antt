@@ -5,7 +5,7 @@ use Rattle.rx_spec.proofs.Prelude.{and_parts, eqb-true, leb-true, get_or_default
 use Rattle.std.proofs.lemmas.List.Folds.{Any-from_list_any}
 use Rattle.lemmas_tables.proofs.Ids.{row_of-id_of}
 use Rattle.rx_search.specs.Starts.{IsId}
-use Rattle.rx_dense_image.proofs.ClosedFacts.{each_at}
+use Rattle.rx_image_parts.proofs.EachBelow.{each_at}
 use Rattle.rx_sparse.specs.Rows.{Row, next_ids, no_range, no_row, offsets_from}
 use Rattle.rx_sparse.specs.Layouts.{Layout, ids_of, row_at, row_count}
 use Rattle.rx_sparse.specs.Facts.{length-offsets, offset_at, offsets_are_ids}

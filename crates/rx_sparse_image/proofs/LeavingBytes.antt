@@ -1,7 +1,7 @@
 -- Needles that are compared byte by byte with the bytes on which a row doesn't lead to itself.
 use Rattle.rx_spec.proofs.Prelude.{◌≡◌, ◌≢◌, ℕ, ◌<◌, ◌≤◌, true, false, not, eqb, List, length, get_or, slice_index}
 use Rattle.rx_spec.proofs.Prelude.{filter, refl, sym, ap, ◌∙◌, range_with_len, bytes_eq, eq-eqb, ne_eqb}
-use Rattle.rx_dense_image.proofs.LeavingBytes.{AreMet, all_met, another, too_few}
+use Rattle.rx_image_parts.proofs.LeavingBytes.{AreMet, all_met, another, too_few}
 use Rattle.rx_sparse.specs.Rows.{Row, next_among}
 use Rattle.rx_sparse.specs.Layouts.{next_id}
 use Rattle.rx_sparse.proofs.RowPlaces.{next_on_byte}

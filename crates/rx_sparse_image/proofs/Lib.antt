@@ -28,5 +28,5 @@ pub mod ReadLayouts
 pub mod WholeAgain
 -- images whose parts and rows were read can be searched
 pub mod ReadImages
+
 -- dense tables that can be read can be made sparse
-pub mod DenseSpecial

@@ -1,6 +1,6 @@
 -- Rows that were read one behind another: what is true of those that were passed, and of the reading that is left.
-use Rattle.rx_spec.proofs.Prelude.{common_steps, [], ◌≡◌, ℕ, zero, suc, ◌+◌, ◌-◌, ◌<◌, ◌≤◌, Bool, true, false, ◌==◌}
-use Rattle.rx_spec.proofs.Prelude.{List, ◌∷◌, ◌++◌, length, drop, get_or, Result, Ok, Err, refl, ap, sym, ◌∙◌, set}
+use Rattle.rx_spec.proofs.Prelude.{common_steps, [], ◌≡◌, ℕ, zero, suc, ◌+◌, ◌-◌, ◌<◌, ◌≤◌, Bool, false, ◌==◌}
+use Rattle.rx_spec.proofs.Prelude.{List, ◌∷◌, ◌++◌, length, drop, get_or, Result, Ok, Err, refl, ap, sym, ◌∙◌}
 use Rattle.rx_spec.proofs.Prelude.{replicate, append_assoc, ⊎_elim, arith, list_any, cases_lt, drop-drop}
 use Rattle.rx_spec.proofs.Prelude.{get_or_append_left, get_or_push, AreBytes, id_of}
 use Rattle.std.proofs.lemmas.List.Concat.{flat_map-append}
@@ -12,7 +12,7 @@ use Rattle.rx_sparse.specs.Rows.{rows_text}
 use Rattle.rx_sparse.proofs.RowTexts.{length-rows}
 use Rattle.rx_sparse.proofs.RowPlaces.{length-rows_in}
 use Rattle.rx_sparse_image.specs.declared.walk.Bounds.{Bounds}
-use Rattle.rx_sparse_image.specs.RowSets.{begins_at, marked}
+use Rattle.rx_sparse_image.specs.RowSets.{begins_at}
 use Rattle.rx_sparse_image.specs.Tested.{IsTestedRow}
 use Rattle.rx_sparse_image.specs.Walks.{row_at, rows_at, rows_from}
 use Rattle.rx_sparse_image.proofs.TestedRows.{IsPassedRow, passed_row}

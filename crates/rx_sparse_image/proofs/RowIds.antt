@@ -4,7 +4,7 @@ use Rattle.lemmas_tables.proofs.Ids.{row_of-id_of}
 use Rattle.rx_search.specs.Starts.{IsId}
 use Rattle.rx_dense.specs.Specials.{is_match_id, is_quit_id}
 use Rattle.rx_dense.proofs.Rows.{id_at_row}
-use Rattle.rx_dense_image.proofs.IdTables.{IdTable, labels}
+use Rattle.rx_image_parts.proofs.IdTables.{IdTable, labels}
 use Rattle.rx_sparse.specs.Facts.{length-offsets, offsets_are_ids}
 use Rattle.rx_sparse.specs.Layouts.{IsShaped, Layout, ids_of, next_id, row_at, row_count, table_of}
 use Rattle.rx_sparse.proofs.RowPlaces.{first_id, next_row_is_id}

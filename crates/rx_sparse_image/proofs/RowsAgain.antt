@@ -8,7 +8,7 @@ use Rattle.rx_wire.specs.Fields.{bytes_at, field}
 use Rattle.rx_wire.specs.Kinds.{Kind}
 use Rattle.rx_wire.proofs.Fields.{bytes_again, u16_again, u32_again}
 use Rattle.rx_dense.specs.Specials.{is_accel_id}
-use Rattle.rx_dense_image.proofs.EachBelow.{all_of}
+use Rattle.rx_image_parts.proofs.EachBelow.{all_of}
 use Rattle.rx_wire.proofs.Words.{length-words, word_alone}
 use Rattle.rx_sparse.specs.Rows.{Row, ends_in, ends_text, head_number, is_some_list, next_ids, no_range, no_row}
 use Rattle.rx_sparse.specs.Rows.{next_ids_in, offsets_from, patterns_text, range_in, row_in, row_len, row_text}

@@ -2,7 +2,7 @@
 use Rattle.rx_spec.proofs.Prelude.{common_steps, ◌≡◌, ℕ, ◌+◌, ◌-◌, ◌*◌, ◌<◌, ◌≤◌, nat_le, length, take, sym, ap, subst}
 use Rattle.rx_spec.proofs.Prelude.{◌∙◌, arith, take-length, and_parts, leb-true, max_id, id_of}
 use Rattle.rx_search.specs.Starts.{IsId}
-use Rattle.rx_dense_image.proofs.ShapedImages.{few_starts}
+use Rattle.rx_image_parts.proofs.PartLengths.{few_starts}
 use Rattle.rx_sparse.specs.Rows.{rows_len}
 use Rattle.rx_sparse.specs.Layouts.{AreRows, IsRow, IsShaped, Layout, ids_of, row_at, row_count}
 use Rattle.rx_sparse.specs.Facts.{offset_at, rows_len-more}

@@ -2,10 +2,11 @@
 use Rattle.rx_spec.proofs.Prelude.{common_steps, [], ◌≡◌, ℕ, ◌+◌, ◌≤◌, List, ◌∷◌, ◌++◌, length, refl, arith}
 use Rattle.rx_spec.proofs.Prelude.{length-append}
 use Rattle.rx_wire.specs.declared.order.Order.{Order}
-use Rattle.rx_dense_image.specs.Heads.{head_text}
-use Rattle.rx_dense_image.specs.StartTables.{start_table_text}
-use Rattle.rx_dense_image.specs.Marks.{quit_text, special_text}
-use Rattle.rx_dense_image.proofs.ImageLengths.{length-head, length-quit, length-special, length-start_table}
+use Rattle.rx_image_parts.specs.Heads.{head_text}
+use Rattle.rx_image_parts.specs.StartTables.{start_table_text}
+use Rattle.rx_image_parts.specs.QuitBytes.{quit_text}
+use Rattle.rx_image_parts.specs.SpecialIds.{special_text}
+use Rattle.rx_image_parts.proofs.PartLengths.{length-head, length-quit, length-special, length-start_table}
 use Rattle.rx_sparse.specs.Layouts.{IsShaped, Layout}
 use Rattle.rx_sparse.specs.Rows.{Row, rows_len}
 use Rattle.rx_sparse.proofs.RowTexts.{length-rows}

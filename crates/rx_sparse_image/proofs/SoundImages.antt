@@ -9,10 +9,10 @@ use Rattle.rx_search.specs.Starts.{IsId}
 use Rattle.rx_dense.specs.Specials.{is_accel_id, is_match_id, is_quit_id}
 use Rattle.rx_dense.specs.Layouts.{context_number, start_entries}
 use Rattle.rx_dense.proofs.Rows.{id_at_row}
-use Rattle.rx_dense_image.specs.Closing.{is_named}
-use Rattle.rx_dense_image.proofs.ClosedFacts.{each_at}
-use Rattle.rx_dense_image.proofs.IdTables.{IdTable, dead_label, leaving_same, patterns_of, quit_label, quit_only}
-use Rattle.rx_dense_image.proofs.IdTables.{special_is, start_is}
+use Rattle.rx_image_parts.specs.SpecialIds.{is_named}
+use Rattle.rx_image_parts.proofs.EachBelow.{each_at}
+use Rattle.rx_image_parts.proofs.IdTables.{IdTable, dead_label, leaving_same, patterns_of, quit_label, quit_only}
+use Rattle.rx_image_parts.proofs.IdTables.{special_is, start_is}
 use Rattle.rx_sparse.specs.Rows.{Row, is_some_list, next_ids}
 use Rattle.rx_sparse.specs.Layouts.{IsShaped, Layout, ids_of, next_id, row_at, row_count, Stored, start_id, table_of}
 use Rattle.rx_sparse.specs.Facts.{IsSoundLayout}

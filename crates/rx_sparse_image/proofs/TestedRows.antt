@@ -9,7 +9,7 @@ use Rattle.std.proofs.lemmas.List.{take-append-drop}
 use Rattle.rx_wire.specs.declared.order.Order.{Order}
 use Rattle.rx_wire.specs.Fields.{field}
 use Rattle.rx_dense.specs.Specials.{is_accel_id, is_match_id}
-use Rattle.rx_dense_image.proofs.EachBelow.{all_at}
+use Rattle.rx_image_parts.proofs.EachBelow.{all_at}
 use Rattle.rx_sparse.specs.Parts.{FitsBytes}
 use Rattle.rx_sparse.specs.Rows.{Row, behind_ends, count_in, ends_in, ends_text, head_number, is_match_in, is_some_list}
 use Rattle.rx_sparse.specs.Rows.{next_ids, next_ids_in, no_range, patterns_in, patterns_len, patterns_text, range_in}

@@ -1,6 +1,6 @@
 -- A whole image is read again, in either order and whatever follows, and its length is told, where its rows are read
 -- again.
-use Rattle.rx_spec.proofs.Prelude.{common_steps, ◌≡◌, ℕ, ◌+◌, ◌-◌, ◌<◌, ◌≤◌, true, List, ◌++◌, length, slice_index, Ok}
+use Rattle.rx_spec.proofs.Prelude.{common_steps, ◌≡◌, ℕ, ◌-◌, ◌<◌, ◌≤◌, true, List, ◌++◌, length, slice_index, Ok}
 use Rattle.rx_spec.proofs.Prelude.{refl, sym, ap, subst, ◌∙◌, append_assoc, arith, rules, w32, le-leb, and_from}
 use Rattle.rx_spec.proofs.Prelude.{length-append, max_id}
 use Rattle.rx_wire.specs.declared.order.Order.{Order}
@@ -8,14 +8,15 @@ use Rattle.rx_wire.specs.Kinds.{Reads}
 use Rattle.rx_wire.specs.Fields.{bytes_at, field}
 use Rattle.rx_wire.specs.Heads.{IsLabel}
 use Rattle.rx_wire.proofs.Fields.{bytes_again, u32_again}
-use Rattle.rx_dense_image.specs.Heads.{head_at, head_text}
-use Rattle.rx_dense_image.specs.StartTables.{start_table_at, start_table_text}
-use Rattle.rx_dense_image.specs.Marks.{quit_at, quit_text, special_at, special_text}
-use Rattle.rx_dense_image.proofs.MarksAgain.{AreSpecialIds, quit_again, special_again}
-use Rattle.rx_dense_image.proofs.ReadAgain.{head_again, words_below}
-use Rattle.rx_dense_image.proofs.WholeAgain.{regrouped}
-use Rattle.rx_dense_image.proofs.Strides.{classes_pass}
-use Rattle.rx_dense_image.proofs.TablesAgain.{start_table_again}
+use Rattle.rx_image_parts.specs.Heads.{head_at, head_text}
+use Rattle.rx_image_parts.specs.StartTables.{start_table_at, start_table_text}
+use Rattle.rx_image_parts.specs.QuitBytes.{quit_at, quit_text}
+use Rattle.rx_image_parts.specs.SpecialIds.{special_at, special_text}
+use Rattle.rx_image_parts.proofs.SpecialAgain.{AreSpecialIds, quit_again, special_again}
+use Rattle.rx_image_parts.proofs.ReadAgain.{head_again, words_below}
+use Rattle.rx_image_parts.proofs.ReadAgain.{regrouped}
+use Rattle.rx_image_parts.proofs.ClassTests.{classes_pass}
+use Rattle.rx_image_parts.proofs.TablesAgain.{start_table_again}
 use Rattle.rx_sparse.specs.Rows.{Row, rows_len, rows_text}
 use Rattle.rx_sparse.specs.Layouts.{IsShaped, Layout}
 use Rattle.rx_sparse.proofs.RowPlaces.{id_small}

@@ -8,9 +8,10 @@ use Rattle.rx_wire.specs.Fields.{field}
 use Rattle.rx_wire.specs.Kinds.{Kind, ◌>>=◌}
 use Rattle.rx_dense.specs.declared.flags.Flags.{Flags}
 use Rattle.rx_dense.specs.declared.special.Special.{Special}
-use Rattle.rx_dense_image.specs.Heads.{head_at, head_text}
-use Rattle.rx_dense_image.specs.StartTables.{StartTable, start_table_at, start_table_text}
-use Rattle.rx_dense_image.specs.Marks.{quit_at, quit_text, special_at, special_text}
+use Rattle.rx_image_parts.specs.Heads.{head_at, head_text}
+use Rattle.rx_image_parts.specs.StartTables.{StartTable, start_table_at, start_table_text}
+use Rattle.rx_image_parts.specs.QuitBytes.{quit_at, quit_text}
+use Rattle.rx_image_parts.specs.SpecialIds.{special_at, special_text}
 use Rattle.rx_sparse.specs.Layouts.{Layout, Stored}
 use Rattle.rx_sparse.specs.Rows.{Row, rows_len, rows_text}
 use Rattle.rx_sparse_image.specs.RowBytes.{RowBytes, row_bytes_at}

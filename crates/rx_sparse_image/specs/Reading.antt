@@ -1,8 +1,8 @@
 -- Parts of an image that stay where they are.
 use Rattle.std.specs.Prelude.{◌≡◌, ◌/◌, ◌%◌, ◌<◌, ◌^◌, true, nat_le, ◌∷◌, ◌++◌, length}
 use Rattle.rx_wire.specs.declared.order.Order.{Order}
-use Rattle.rx_dense_image.specs.StartTables.{IsReadStartTable, StartTable}
-use Rattle.rx_dense_image.specs.Marks.{are_special}
+use Rattle.rx_image_parts.specs.StartTables.{IsReadStartTable, StartTable}
+use Rattle.rx_image_parts.specs.SpecialIds.{are_special}
 use Rattle.rx_sparse.specs.Layouts.{Layout}
 use Rattle.rx_sparse.specs.Parts.{FitsBytes, stored}
 use Rattle.rx_sparse.specs.Rows.{Row, ends_text, next_ids, row_of_parts, words_in, words_text}

@@ -7,7 +7,7 @@ use Rattle.rx_base.specs.ByteClasses.{AreClasses}
 use Rattle.rx_wire.specs.declared.order.Order.{Order}
 use Rattle.rx_wire.specs.Kinds.{Kind, ◌>>=◌}
 use Rattle.rx_wire.specs.Fields.{bytes_at, number_at}
-use Rattle.rx_dense_image.specs.Rows.{are_classes}
+use Rattle.rx_image_parts.specs.Classes.{are_classes}
 
 pub record RowBytes : Type 0 where
   pub state_len : ℕ

@@ -5,8 +5,8 @@ use Rattle.rx_spec.specs.Ids.{id_of}
 use Rattle.rx_base.specs.ByteClasses.{AreClasses}
 use Rattle.rx_wire.specs.declared.order.Order.{Order}
 use Rattle.rx_dense.specs.Specials.{is_accel_id, is_match_id}
-use Rattle.rx_dense_image.specs.StartTables.{IsReadStartTable}
-use Rattle.rx_dense_image.specs.Marks.{are_special}
+use Rattle.rx_image_parts.specs.StartTables.{IsReadStartTable}
+use Rattle.rx_image_parts.specs.SpecialIds.{are_special}
 use Rattle.rx_sparse.specs.Layouts.{Layout}
 use Rattle.rx_sparse.specs.Rows.{Row, is_some_list, next_ids, no_range, no_row, offsets, row_len, rows_len}
 use Rattle.rx_sparse_image.specs.declared.walk.Bounds.{Bounds}

@@ -17,7 +17,7 @@ use crate::row_parts::{RowParts, split_parts};
 use crate::row_sets::RowSet;
 use rx_base::StateID;
 use rx_dense::Special;
-use rx_dense_image::both::{is_in_range, word_at};
+use rx_image_parts::{is_in_range, word_at};
 
 /// Whether each range and end of input lead to a row.
 fn leads_to_rows(image: &Image<'_>, rows: &RowSet, row: &RowParts<'_>) -> bool

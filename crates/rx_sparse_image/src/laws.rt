@@ -4,11 +4,8 @@
 
 ghost use Rattle.std.specs.Prelude.{◌≡◌, ℕ, ◌++◌, List, Ok, length};
 ghost use Rattle.rx_wire.specs.declared.order.Order.{Order};
-ghost use Rattle.rx_dense.specs.Layouts.{Layout as Dense};
-ghost use Rattle.rx_dense_image.specs.Images.{IsWhole as IsWholeDense};
 ghost use Rattle.rx_sparse.specs.Facts.{IsSoundLayout};
 ghost use Rattle.rx_sparse.specs.Layouts.{IsShaped, Layout};
-ghost use Rattle.rx_sparse.specs.Sparse.{AreSpecialRows};
 ghost use Rattle.rx_sparse_image.specs.Images.{reads, text};
 ghost use Rattle.rx_sparse_image.specs.Tested.{IsWhole};
 
@@ -24,11 +21,4 @@ pub fn images_are_read_again()
 pub fn what_can_be_read_is_sound()
     ensures shaped { (l : Layout) → IsWhole l → IsShaped l }
     ensures sound { (l : Layout) → IsWhole l → IsSoundLayout l }
-{}
-
-/// The special ids of a dense table that can be read are ids of rows, which `to_sparse` requires. [`rx_dense_image`]
-/// reads only such tables.
-#[tactic(auto, using(crate::proofs::DenseSpecial::special_rows))]
-pub fn special_ids_are_rows()
-    ensures { (l : Dense) → IsWholeDense l → AreSpecialRows l }
 {}

@@ -20,6 +20,6 @@ mod turned;
 mod walk;
 mod write;
 
-pub use laws::{images_are_read_again, special_ids_are_rows, what_can_be_read_is_sound};
+pub use laws::{images_are_read_again, what_can_be_read_is_sound};
 pub use read::SparseRead;
 pub use write::SparseWrite;

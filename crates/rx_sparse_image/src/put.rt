@@ -5,11 +5,12 @@
 ghost use Rattle.std.specs.Prelude.{◌≡◌, ◌+◌, ◌*◌, ◌≤◌, length, map};
 ghost use Rattle.rx_wire.specs.declared.order.Order.{Order};
 ghost use Rattle.rx_dense.specs.Layouts.{context_number};
-ghost use Rattle.rx_dense_image.specs.Heads.{head_text};
-ghost use Rattle.rx_dense_image.specs.StartTables.{number_or_none, start_table_text};
-ghost use Rattle.rx_dense_image.specs.Rows.{words_text};
-ghost use Rattle.rx_dense_image.specs.Marks.{quit_text, special_text};
-ghost use Rattle.rx_dense_image.specs.Written.{IsPut};
+ghost use Rattle.rx_image_parts.specs.Heads.{head_text};
+ghost use Rattle.rx_image_parts.specs.StartTables.{number_or_none, start_table_text};
+ghost use Rattle.rx_image_parts.specs.Words.{words_text};
+ghost use Rattle.rx_image_parts.specs.QuitBytes.{quit_text};
+ghost use Rattle.rx_image_parts.specs.SpecialIds.{special_text};
+ghost use Rattle.rx_image_parts.specs.Written.{IsPut};
 ghost use Rattle.rx_sparse.specs.Layouts.{IsShaped};
 ghost use Rattle.rx_sparse.specs.Rows.{rows_len, rows_text};
 ghost use Rattle.rx_sparse_image.specs.Images.{row_bytes_text};
@@ -18,7 +19,7 @@ ghost use Rattle.rx_sparse_image.specs.Images.{image_len, sparse_label, start_ta
 use crate::turned::put_rows;
 use rx_base::Start;
 use rx_dense::Flags;
-use rx_dense_image::both::{
+use rx_image_parts::{
     CONTEXTS, ENDIANNESS, NONE, VERSION, context_number, flags_word, kind_number, put_plain,
     put_quit, put_special, put_word, universal_word,
 };

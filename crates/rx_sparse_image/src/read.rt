@@ -11,7 +11,7 @@ use crate::closing::is_closed;
 use crate::row_bytes::split_row_bytes;
 use crate::start_table::split_start_table;
 use crate::walk::{Bounds, walk};
-use rx_dense_image::both::{split_head, split_quit, split_special};
+use rx_image_parts::{split_head, split_quit, split_special};
 use rx_sparse::{DFA, Parts};
 use rx_wire::DeserializeError;
 use std::alloc::Global;

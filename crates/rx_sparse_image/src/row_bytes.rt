@@ -6,7 +6,7 @@ ghost use Rattle.rx_wire.specs.Kinds.{Gives};
 ghost use Rattle.rx_sparse_image.specs.RowBytes.{AreReadBytes, row_bytes_at, settings_at, tested_classes};
 
 use rx_base::{ByteClasses, PatternID};
-use rx_dense_image::both::{classes_of, count_of};
+use rx_image_parts::{classes_of, count_of};
 use rx_wire::{DeserializeError, Order, split_bytes};
 use std::marker::Model;
 

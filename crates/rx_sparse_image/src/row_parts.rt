@@ -8,7 +8,7 @@ ghost use Rattle.rx_sparse.specs.Parts.{IsWholeRow};
 ghost use Rattle.rx_sparse.specs.Rows.{ends_text, head_number, next_among, next_ids, patterns_len, patterns_text};
 ghost use Rattle.rx_sparse.specs.Rows.{range_in, row_in, row_len, word_at, words_text};
 
-use rx_dense_image::both::word_at;
+use rx_image_parts::word_at;
 use rx_wire::Order;
 
 /// The bytes of a row, part by part.

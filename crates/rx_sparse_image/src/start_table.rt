@@ -2,15 +2,13 @@
 
 ghost use Rattle.std.specs.Prelude.{◌≡◌, ◌*◌, ◌/◌, ◌%◌, IfOk, length};
 ghost use Rattle.rx_wire.specs.Kinds.{Gives};
-ghost use Rattle.rx_dense_image.specs.StartTables.{IsReadStartTable, start_table_at};
-ghost use Rattle.rx_dense_image.specs.Rows.{words_at};
+ghost use Rattle.rx_image_parts.specs.StartTables.{IsReadStartTable, start_table_at};
+ghost use Rattle.rx_image_parts.specs.Words.{words_at};
 ghost use Rattle.rx_sparse.specs.Rows.{words_in};
 ghost use Rattle.rx_sparse_image.specs.Reading.{seen_table};
 
 use rx_base::{Start, StartKind, StateID};
-use rx_dense_image::both::{
-    split_pattern_starts, split_start_kinds, split_universal, start_entries,
-};
+use rx_image_parts::{split_pattern_starts, split_start_kinds, split_universal, start_entries};
 use rx_wire::{DeserializeError, Order, split_items};
 
 /// The start table of an image.
@@ -31,7 +29,7 @@ pub(crate) struct StartTable<'a> {
 }
 
 /// The bytes of `count` ids of start rows, and the bytes after them.
-#[tactic(auto, unfolding(rx_dense_image::specs::Rows::words_at))]
+#[tactic(auto, unfolding(rx_image_parts::specs::Words::words_at))]
 fn split_start_ids<'a>(
     order: Order,
     count: usize,
@@ -47,7 +45,7 @@ fn split_start_ids<'a>(
 }
 
 /// The start table, and the bytes after it.
-#[tactic(auto, unfolding(rx_dense_image::specs::StartTables::start_table_at))]
+#[tactic(auto, unfolding(rx_image_parts::specs::StartTables::start_table_at))]
 pub(crate) fn split_start_table<'a>(
     order: Order,
     bytes: &'a [u8],

@@ -4,14 +4,14 @@ ghost use Rattle.std.specs.Prelude.{◌≡◌, ◌+◌, ◌/◌, ◌%◌, ◌<�
 ghost use Rattle.std.specs.Int.{w16};
 ghost use Rattle.rx_wire.specs.declared.order.Order.{Order};
 ghost use Rattle.rx_wire.specs.Fields.{field};
-ghost use Rattle.rx_dense_image.specs.Written.{IsPut};
+ghost use Rattle.rx_image_parts.specs.Written.{IsPut};
 ghost use Rattle.rx_sparse.specs.Parts.{IsWholeRow};
 ghost use Rattle.rx_sparse.specs.Rows.{patterns_len, row_in, row_len, row_text, rows_in, rows_text, words_in};
 ghost use Rattle.rx_sparse.specs.Rows.{words_text};
 ghost use Rattle.rx_sparse_image.specs.Turned.{AreWholeRows};
 
 use crate::row_parts::split_parts;
-use rx_dense_image::both::{put_plain, put_word, word_at};
+use rx_image_parts::{put_plain, put_word, word_at};
 use rx_wire::{Endian, Order};
 
 fn put_half<E: Endian>(number: u16, dst: &mut [u8], at: usize) -> usize

@@ -14,7 +14,7 @@ ghost use Rattle.rx_sparse_image.specs.Walks.{range_count, row_at, rows_at, test
 use crate::row_sets::RowSet;
 use rx_base::{PatternID, StateID};
 use rx_dense::Special;
-use rx_dense_image::both::{is_in_range, is_named, word_at};
+use rx_image_parts::{is_in_range, is_named, word_at};
 use rx_wire::{DeserializeError, DeserializeErrorKind, Order, split_bytes, split_items};
 use std::alloc::Global;
 

@@ -3,7 +3,7 @@ use Rattle.rx_spec.proofs.Prelude.{below_more, eq-eqb, and_from, and_right}
 use Rattle.rx_dense.specs.Parts.{layout_of}
 use Rattle.rx_dense.specs.Layouts.{IsRowId, stride}
 use Rattle.rx_dense_image.specs.Closing.{has_needles, range_len}
-use Rattle.rx_dense_image.proofs.EachBelow.{all_of, not_all}
+use Rattle.rx_image_parts.proofs.EachBelow.{all_of, not_all}
 use Rattle.rx_dense_image.proofs.AccelRows.{range_row, row_id_of, special_rows}
 use Rattle.rx_dense_image.proofs.closing.accels_stand.Goals as goal
 

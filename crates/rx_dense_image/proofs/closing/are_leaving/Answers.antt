@@ -2,8 +2,8 @@ use Rattle.rx_spec.proofs.Prelude.{common_steps, ◌≡◌, ℕ, ◌+◌, true, 
 use Rattle.rx_spec.proofs.Prelude.{eq-eqb}
 use Rattle.rx_dense.specs.Parts.{layout_of}
 use Rattle.rx_dense_image.specs.Closing.{leaves}
-use Rattle.rx_dense_image.proofs.LeavingBytes.{AreMet, all_leave, another_leaves, few_leave, met_less, met_more}
-use Rattle.rx_dense_image.proofs.LeavingBytes.{none_met}
+use Rattle.rx_image_parts.proofs.LeavingBytes.{AreMet, met_less, met_more, none_met}
+use Rattle.rx_dense_image.proofs.LeavingRows.{all_leave, another_leaves, few_leave}
 use Rattle.rx_dense_image.proofs.closing.are_leaving.Goals as goal
 use Rattle.rx_dense_image.proofs.closing.are_leaving.Goals.{then-next_id-id+else-met-needles+else-needles-met}
 use Rattle.rx_dense_image.proofs.closing.are_leaving.Goals.{else-next_id-id}

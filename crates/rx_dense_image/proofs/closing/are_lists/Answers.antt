@@ -1,7 +1,7 @@
 use Rattle.rx_spec.proofs.Prelude.{common_steps, ◌/◌, length, sym, ◌∙◌, arith, rules}
 use Rattle.rx_dense.specs.Parts.{layout_of}
 use Rattle.rx_dense_image.specs.Closing.{is_list}
-use Rattle.rx_dense_image.proofs.EachBelow.{all_of, not_all}
+use Rattle.rx_image_parts.proofs.EachBelow.{all_of, not_all}
 use Rattle.rx_dense_image.proofs.closing.are_lists.Goals as goal
 
 pub loop-i-preserved : goal.loop-i-preserved

@@ -1,8 +1,8 @@
 use Rattle.rx_spec.proofs.Prelude.{◌≡◌, ℕ, ◌+◌, ◌*◌, ◌/◌, Bool, true, false, sym, ap, ◌∙◌, arith, rules, below_more}
 use Rattle.rx_dense.specs.Layouts.{Layout, stride}
 use Rattle.rx_dense.specs.Parts.{layout_of}
-use Rattle.rx_dense_image.specs.Closing.{is_named}
-use Rattle.rx_dense_image.proofs.EachBelow.{all_of, not_all}
+use Rattle.rx_image_parts.specs.SpecialIds.{is_named}
+use Rattle.rx_image_parts.proofs.EachBelow.{all_of, not_all}
 use Rattle.rx_dense_image.proofs.closing.are_named.Goals as goal
 
 -- the test of a row

@@ -1,7 +1,7 @@
 use Rattle.rx_spec.proofs.Prelude.{◌≡◌, ℕ, ◌*◌, ◌<◌, true}
 use Rattle.rx_dense.specs.Layouts.{stride}
 use Rattle.rx_dense.specs.Parts.{layout_of}
-use Rattle.rx_dense_image.specs.Closing.{is_named}
+use Rattle.rx_image_parts.specs.SpecialIds.{is_named}
 use Rattle.rx_dense_image.proofs.closing.are_named.Given as goal
 
 abbrev pub invariant-loop-row : goal.invariant-loop-row

@@ -1,4 +1,4 @@
-use Rattle.rx_spec.proofs.Prelude.{common_steps, [], arith, length-map-range_with_len, get_or-map-range_with_len}
+use Rattle.rx_spec.proofs.Prelude.{common_steps, arith, length-map-range_with_len, get_or-map-range_with_len}
 use Rattle.rx_dense_image.proofs.Accelerators.{accels_len, one_accel_more}
 use Rattle.rx_dense_image.proofs.marks.accels_of.Goals as goal
 

@@ -1,4 +1,4 @@
-use Rattle.rx_spec.proofs.Prelude.{common_steps, [], arith}
+use Rattle.rx_spec.proofs.Prelude.{common_steps, arith}
 use Rattle.rx_dense_image.proofs.put.put_accels.Goals as goal
 
 pub loop-i-init : goal.loop-i-init

@@ -1,7 +1,7 @@
 use Rattle.rx_spec.proofs.Prelude.{◌≡◌, ◌+◌, ◌*◌, ◌++◌, length, take, w32, flat_map}
 use Rattle.rx_wire.specs.Fields.{field}
 use Rattle.rx_dense_image.specs.Marks.{accel_text}
-use Rattle.rx_dense_image.specs.Written.{IsPut}
+use Rattle.rx_image_parts.specs.Written.{IsPut}
 use Rattle.rx_dense_image.proofs.put.put_accels.Given as goal
 
 abbrev pub invariant-loop-i : goal.invariant-loop-i

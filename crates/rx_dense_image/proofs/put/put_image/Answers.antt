@@ -1,7 +1,8 @@
 use Rattle.rx_spec.proofs.Prelude.{ap}
-use Rattle.rx_dense_image.specs.Heads.{dense_label, head_text}
+use Rattle.rx_image_parts.specs.Heads.{head_text}
+use Rattle.rx_dense_image.specs.Heads.{dense_label}
 use Rattle.rx_dense_image.specs.Images.{text}
-use Rattle.rx_dense_image.proofs.Behind.{and_then, put_same}
+use Rattle.rx_image_parts.proofs.Behind.{and_then, put_same}
 use Rattle.rx_dense_image.proofs.put.put_image.Goals as goal
 
 pub returns-clause-put : goal.returns-clause-put

@@ -1,6 +1,6 @@
 use Rattle.rx_spec.proofs.Prelude.{◌≡◌, ◌+◌, ◌*◌, length, take}
-use Rattle.rx_dense_image.specs.Rows.{words_text}
-use Rattle.rx_dense_image.specs.Written.{IsPut}
+use Rattle.rx_image_parts.specs.Words.{words_text}
+use Rattle.rx_image_parts.specs.Written.{IsPut}
 use Rattle.rx_dense_image.proofs.put.put_words.Given as goal
 
 abbrev pub invariant-loop-word : goal.invariant-loop-word

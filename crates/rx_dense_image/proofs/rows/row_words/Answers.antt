@@ -1,7 +1,9 @@
 use Rattle.rx_spec.proofs.Prelude.{ℕ, ◌^◌, Bool, slice_index, sym, ap, ◌∙◌, arith, fill_by_all}
 use Rattle.rx_wire.specs.declared.order.Order.{Order}
-use Rattle.rx_dense_image.specs.Rows.{cleared, word_at}
-use Rattle.rx_dense_image.specs.Bulk.{column_forbidden, each_below, may_stand, word_stands}
+use Rattle.rx_image_parts.specs.Words.{word_at}
+use Rattle.rx_dense_image.specs.Rows.{cleared}
+use Rattle.rx_image_parts.specs.Below.{each_below}
+use Rattle.rx_dense_image.specs.Bulk.{column_forbidden, may_stand, word_stands}
 use Rattle.rx_dense_image.proofs.Padding.{padded}
 use Rattle.rx_dense_image.proofs.WordBytes.{below_cong}
 use Rattle.rx_dense_image.proofs.ColumnMasks.{kept_cleared, stands_column}

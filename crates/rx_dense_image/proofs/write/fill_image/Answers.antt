@@ -1,5 +1,5 @@
 use Rattle.rx_spec.proofs.Prelude.{sym, ◌∙◌}
-use Rattle.rx_dense_image.proofs.Behind.{filled}
+use Rattle.rx_image_parts.proofs.Behind.{filled}
 use Rattle.rx_dense_image.proofs.write.fill_image.Goals as goal
 
 pub returns : goal.returns

@@ -1,5 +1,5 @@
 use Rattle.rx_spec.proofs.Prelude.{refl, arith}
-use Rattle.rx_dense_image.proofs.Behind.{and_then, filled, of_word, put_same}
+use Rattle.rx_image_parts.proofs.Behind.{and_then, filled, of_word, put_same}
 use Rattle.rx_image.proofs.head.write_head.Goals as goal
 
 pub returns : goal.returns

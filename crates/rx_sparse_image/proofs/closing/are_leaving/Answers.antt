@@ -1,6 +1,6 @@
 use Rattle.rx_spec.proofs.Prelude.{common_steps, ◌≡◌, ℕ, ◌+◌, List, true, false, slice_index, sym, ap, ◌∙◌, subst}
 use Rattle.rx_spec.proofs.Prelude.{arith}
-use Rattle.rx_dense_image.proofs.LeavingBytes.{AreMet, met_less, met_more, none_met}
+use Rattle.rx_image_parts.proofs.LeavingBytes.{AreMet, met_less, met_more, none_met}
 use Rattle.rx_sparse.specs.Rows.{Row, next_among}
 use Rattle.rx_sparse_image.specs.Closing.{leaves}
 use Rattle.rx_sparse_image.specs.Reading.{row_of}

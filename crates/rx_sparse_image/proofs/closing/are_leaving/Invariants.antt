@@ -1,4 +1,4 @@
-use Rattle.rx_dense_image.proofs.LeavingBytes.{AreMet}
+use Rattle.rx_image_parts.proofs.LeavingBytes.{AreMet}
 use Rattle.rx_sparse_image.specs.Closing.{leaves}
 use Rattle.rx_sparse_image.specs.Reading.{row_of}
 use Rattle.rx_sparse_image.proofs.closing.are_leaving.Given as goal

@@ -4,7 +4,7 @@ use Rattle.rx_sparse.specs.Layouts.{Layout}
 use Rattle.rx_sparse.specs.Rows.{word_at}
 use Rattle.rx_sparse_image.specs.Closing.{is_start_row}
 use Rattle.rx_sparse_image.specs.Reading.{image_layout}
-use Rattle.rx_dense_image.proofs.EachBelow.{all_of, not_all}
+use Rattle.rx_image_parts.proofs.EachBelow.{all_of, not_all}
 use Rattle.rx_sparse_image.proofs.closing.are_start_rows.Goals as goal
 
 pub loop-i-preserved : goal.loop-i-preserved

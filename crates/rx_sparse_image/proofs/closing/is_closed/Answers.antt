@@ -1,4 +1,4 @@
-use Rattle.rx_spec.proofs.Prelude.{arith, ◌≡◌, ◌&&◌, ◌==◌, true, false, length, refl, sym, ◌∙◌, common_steps, eq-eqb}
+use Rattle.rx_spec.proofs.Prelude.{arith, ◌≡◌, ◌&&◌, ◌==◌, true, length, refl, sym, ◌∙◌, common_steps, eq-eqb}
 use Rattle.rx_sparse.specs.Layouts.{Layout}
 use Rattle.rx_sparse.proofs.RowPlaces.{length-rows_in}
 use Rattle.rx_sparse_image.specs.Closing.{are_special_rows, rows_stand}

@@ -1,6 +1,6 @@
 use Rattle.rx_spec.proofs.Prelude.{◌/◌, ◌==◌, length, sym, ◌∙◌, arith, ne_eqb}
 use Rattle.rx_sparse.specs.Rows.{word_at}
-use Rattle.rx_dense_image.proofs.EachBelow.{all_of, not_all}
+use Rattle.rx_image_parts.proofs.EachBelow.{all_of, not_all}
 use Rattle.rx_sparse_image.proofs.PartsOfRows.{all_next, id_within}
 use Rattle.rx_sparse_image.proofs.closing.leads_to_dead.Goals as goal
 

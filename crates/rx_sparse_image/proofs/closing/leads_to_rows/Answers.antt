@@ -3,7 +3,7 @@ use Rattle.rx_sparse.specs.Layouts.{Layout}
 use Rattle.rx_sparse.specs.Rows.{word_at}
 use Rattle.rx_sparse_image.specs.Closing.{is_row_id}
 use Rattle.rx_sparse_image.specs.Reading.{image_layout}
-use Rattle.rx_dense_image.proofs.EachBelow.{all_of, not_all}
+use Rattle.rx_image_parts.proofs.EachBelow.{all_of, not_all}
 use Rattle.rx_sparse_image.proofs.PartsOfRows.{all_next, id_within}
 use Rattle.rx_sparse_image.proofs.closing.leads_to_rows.Goals as goal
 

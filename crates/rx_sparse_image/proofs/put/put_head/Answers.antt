@@ -1,5 +1,5 @@
 use Rattle.rx_spec.proofs.Prelude.{refl}
-use Rattle.rx_dense_image.proofs.Behind.{and_then, of_word, put_same}
+use Rattle.rx_image_parts.proofs.Behind.{and_then, of_word, put_same}
 use Rattle.rx_sparse_image.proofs.put.put_head.Goals as goal
 
 pub returns-clause-put : goal.returns-clause-put

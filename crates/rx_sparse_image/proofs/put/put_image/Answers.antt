@@ -1,7 +1,8 @@
 use Rattle.rx_spec.proofs.Prelude.{ap}
-use Rattle.rx_dense_image.specs.Heads.{head_text}
-use Rattle.rx_dense_image.specs.Marks.{quit_text, special_text}
-use Rattle.rx_dense_image.proofs.Behind.{and_then, put_same}
+use Rattle.rx_image_parts.specs.Heads.{head_text}
+use Rattle.rx_image_parts.specs.QuitBytes.{quit_text}
+use Rattle.rx_image_parts.specs.SpecialIds.{special_text}
+use Rattle.rx_image_parts.proofs.Behind.{and_then, put_same}
 use Rattle.rx_sparse_image.specs.Images.{sparse_label, text}
 use Rattle.rx_sparse_image.proofs.put.put_image.Goals as goal
 

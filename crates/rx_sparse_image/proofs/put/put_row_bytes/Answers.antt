@@ -1,5 +1,5 @@
 use Rattle.rx_spec.proofs.Prelude.{common_steps, ◌≡◌, true, refl, sym, ◌∙◌, arith, false≢true}
-use Rattle.rx_dense_image.proofs.Behind.{and_then}
+use Rattle.rx_image_parts.proofs.Behind.{and_then}
 use Rattle.rx_sparse.proofs.RowTexts.{length-rows}
 use Rattle.rx_sparse_image.proofs.Pieces.{are_whole, rows_there}
 use denote.Enum.Bare.{sameb}

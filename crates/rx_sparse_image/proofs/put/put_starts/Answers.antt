@@ -1,5 +1,5 @@
 use Rattle.rx_spec.proofs.Prelude.{common_steps, arith}
-use Rattle.rx_dense_image.proofs.Behind.{and_then}
+use Rattle.rx_image_parts.proofs.Behind.{and_then}
 use Rattle.rx_sparse_image.proofs.put.put_starts.Goals as goal
 
 pub put_word-end-requires : goal.put_word-end-requires

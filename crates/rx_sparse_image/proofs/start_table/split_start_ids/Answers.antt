@@ -1,5 +1,5 @@
 use Rattle.rx_spec.proofs.Prelude.{common_steps, arith, length-map-range_with_len}
-use Rattle.rx_dense_image.specs.Rows.{words_at}
+use Rattle.rx_image_parts.specs.Words.{words_at}
 use Rattle.rx_sparse_image.proofs.start_table.split_start_ids.Goals as goal
 
 pub returns-clause-read : goal.returns-clause-read

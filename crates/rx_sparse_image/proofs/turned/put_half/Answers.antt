@@ -2,7 +2,7 @@ use Rattle.rx_spec.proofs.Prelude.{refl, arith, w16}
 use Rattle.rx_wire.specs.Fields.{field}
 use Rattle.rx_wire.proofs.Fields.{length-field_16}
 use Rattle.rx_wire.proofs.Behind.{put_behind, stands_more}
-use Rattle.rx_dense_image.proofs.Behind.{put_up_to}
+use Rattle.rx_image_parts.proofs.Behind.{put_up_to}
 use Rattle.rx_sparse_image.proofs.turned.put_half.Goals as goal
 
 pub returns-clause-put : goal.returns-clause-put

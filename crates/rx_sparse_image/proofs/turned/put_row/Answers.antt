@@ -1,7 +1,7 @@
 use Rattle.rx_spec.proofs.Prelude.{common_steps, ◌/◌, length, ap, ◌∙◌, arith, w16}
 use Rattle.rx_wire.specs.Fields.{field}
-use Rattle.rx_dense_image.proofs.Behind.{and_then, put_same}
-use Rattle.rx_sparse.specs.Rows.{row_in, words_in, words_text, next_ids}
+use Rattle.rx_image_parts.proofs.Behind.{and_then, put_same}
+use Rattle.rx_sparse.specs.Rows.{row_in, words_in, words_text}
 use Rattle.rx_sparse_image.proofs.Pieces.{ids_turned, patterns_turned, patterns_whole, row_sizes, words_whole}
 use Rattle.rx_sparse_image.proofs.turned.put_row.Goals as goal
 

@@ -1,5 +1,5 @@
 use Rattle.rx_spec.proofs.Prelude.{common_steps, ℕ, drop, ap, ◌∙◌, arith}
-use Rattle.rx_dense_image.proofs.Behind.{and_then, put_same}
+use Rattle.rx_image_parts.proofs.Behind.{and_then, put_same}
 use Rattle.rx_sparse.specs.Rows.{row_in, row_len, row_text, rows_len}
 use Rattle.rx_sparse.proofs.RowPlaces.{length-rows_in}
 use Rattle.rx_sparse_image.proofs.Pieces.{next_len, next_there, place_within, rows_more, rows_size, whole_there}

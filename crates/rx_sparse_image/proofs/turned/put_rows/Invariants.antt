@@ -1,5 +1,5 @@
 use Rattle.rx_spec.proofs.Prelude.{◌≡◌, ◌+◌, drop, length, take}
-use Rattle.rx_dense_image.specs.Written.{IsPut}
+use Rattle.rx_image_parts.specs.Written.{IsPut}
 use Rattle.rx_sparse.specs.Rows.{rows_in, rows_len, rows_text}
 use Rattle.rx_sparse_image.proofs.turned.put_rows.Given as goal
 

@@ -1,6 +1,6 @@
 use Rattle.rx_spec.proofs.Prelude.{◌≡◌, ◌+◌, ◌*◌, ◌/◌, length, take}
-use Rattle.rx_dense_image.specs.Rows.{words_text}
-use Rattle.rx_dense_image.specs.Written.{IsPut}
+use Rattle.rx_image_parts.specs.Words.{words_text}
+use Rattle.rx_image_parts.specs.Written.{IsPut}
 use Rattle.rx_sparse.specs.Rows.{words_in}
 use Rattle.rx_sparse_image.proofs.turned.put_words.Given as goal
 

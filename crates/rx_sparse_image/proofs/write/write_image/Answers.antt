@@ -1,5 +1,5 @@
 use Rattle.rx_spec.proofs.Prelude.{common_steps, arith}
-use Rattle.rx_dense_image.proofs.Behind.{written}
+use Rattle.rx_image_parts.proofs.Behind.{written}
 use Rattle.rx_sparse_image.proofs.write.write_image.Goals as goal
 
 pub returns-then-dst-image_len : goal.returns-then-dst-image_len

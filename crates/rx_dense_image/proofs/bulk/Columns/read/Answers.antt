@@ -1,7 +1,8 @@
 use Rattle.rx_spec.proofs.Prelude.{rules, ◌≡◌, ℕ, ◌+◌, ◌-◌, ◌%◌, ◌^◌, ◌<◌, ◌&&◌, Bool, bit_and, length, min}
 use Rattle.rx_spec.proofs.Prelude.{slice_index, sym, ap, subst, ◌∙◌, arith, common_steps}
-use Rattle.rx_dense_image.specs.Rows.{word_at}
-use Rattle.rx_dense_image.specs.Bulk.{each_below, kept_word, may_stand, word_stands}
+use Rattle.rx_image_parts.specs.Words.{word_at}
+use Rattle.rx_image_parts.specs.Below.{each_below}
+use Rattle.rx_dense_image.specs.Bulk.{kept_word, may_stand, word_stands}
 use Rattle.rx_dense_image.proofs.WordBytes.{below_more, next_begins, pushed, wraps}
 use Rattle.rx_dense_image.proofs.bulk.Columns.read.Goals as goal
 

@@ -1,5 +1,6 @@
 use Rattle.rx_spec.proofs.Prelude.{◌≡◌, ℕ, ◌+◌, ◌-◌, ◌%◌, ◌^◌, ◌<◌, ◌≤◌, length, slice_index, vec_capacity}
-use Rattle.rx_dense_image.specs.Bulk.{each_below, is_clean, kept_word, word_stands}
+use Rattle.rx_image_parts.specs.Below.{each_below}
+use Rattle.rx_dense_image.specs.Bulk.{is_clean, kept_word, word_stands}
 use Rattle.rx_dense_image.proofs.bulk.Columns.read.Given as goal
 
 abbrev pub invariant-rounds : goal.invariant-rounds

@@ -1,5 +1,5 @@
 use Rattle.rx_spec.proofs.Prelude.{arith}
-use Rattle.rx_dense_image.proofs.Behind.{written}
+use Rattle.rx_image_parts.proofs.Behind.{written}
 use Rattle.rx_dense_image.proofs.ImageLengths.{length-accels}
 use Rattle.rx_dense_image.proofs.parts.AccelsAccelsImage.write_to.Goals as goal
 

@@ -1,4 +1,4 @@
-use Rattle.rx_spec.proofs.Prelude.{common_steps, ◌-◌, arith}
+use Rattle.rx_spec.proofs.Prelude.{common_steps, arith}
 use Rattle.rx_sparse.proofs.DecodedRows.{is_there, next-found, next-none, next-passed}
 use Rattle.rx_sparse_image.proofs.row_parts.RowParts.next.Goals as goal
 

@@ -1,5 +1,5 @@
 use Rattle.rx_spec.proofs.Prelude.{common_steps, ◌-◌, ◌*◌, ◌==◌, ◌&&◌, slice_index, sym, ap, ◌∙◌, arith, rules}
-use Rattle.rx_dense_image.proofs.EachBelow.{all_of, not_all}
+use Rattle.rx_image_parts.proofs.EachBelow.{all_of, not_all}
 use Rattle.rx_sparse_image.specs.Walks.{is_range_at}
 use Rattle.rx_sparse_image.proofs.walk.Bounds.are_ends.Goals as goal
 

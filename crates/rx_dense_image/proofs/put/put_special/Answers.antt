@@ -1,6 +1,0 @@
-use Rattle.rx_spec.proofs.Prelude.{arith, common_steps}
-use Rattle.rx_dense_image.proofs.Behind.{and_then}
-use Rattle.rx_dense_image.proofs.put.put_special.Goals as goal
-
-pub returns-clause-put : goal.returns-clause-put
-returns-clause-put g c = grind (arith, common_steps, and_then)

@@ -1,5 +1,0 @@
-use Rattle.rx_spec.proofs.Prelude.{arith, common_steps}
-use Rattle.rx_dense_image.proofs.put.put_word.Goals as goal
-
-pub returns-clause-put : goal.returns-clause-put
-returns-clause-put g c = grind (arith, common_steps)
