@@ -14,7 +14,7 @@ use tests_worked_tables::table;
 const COLUMNS: [&[Unit]; 3] = [&[Unit::Byte(b'a')], &[Unit::Byte(255)], &[Unit::Eoi]];
 
 /// A table to build.
-#[derive(Clone, Copy, Debug)]
+#[derive(Clone, Copy)]
 struct Case<'c> {
     /// The next rows of each row after quit.
     rows: &'c [[usize; 3]],
@@ -148,10 +148,7 @@ fn as_few_rows_as_possible_are_left(rt: HostRuntime) -> Result<(), Fail> {
     for (case, left) in &CASES {
         let mut dfa = case.table(alloc)?;
         minimize(alloc, &mut dfa)?;
-        assert_eq!(rt; dfa.state_len(), *left, "{case:?}");
-        let mut again = case.table(alloc)?;
-        Minimizer::new(alloc, &mut again)?.run()?;
-        assert_eq!(rt; again.state_len(), *left, "{case:?}");
+        assert_eq!(rt; dfa.state_len(), *left);
     }
     Ok(())
 }
@@ -186,7 +183,7 @@ fn long_chains(rt: HostRuntime) -> Result<(), Fail> {
             anchored: 502,
         };
         let mut dfa = case.table(alloc)?;
-        minimize(alloc, &mut dfa)?;
+        Minimizer::new(alloc, &mut dfa)?.run()?;
         assert_eq!(rt; dfa.state_len(), left);
     }
     Ok(())
