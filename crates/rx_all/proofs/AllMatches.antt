@@ -16,7 +16,7 @@ use Rattle.lemmas_walks.proofs.OverlappingBounds.{overlapping_in_span}
 use Rattle.lemmas_walks.proofs.Reaches.{reaches_sound, reaches_lie}
 use Rattle.lemmas_walks.proofs.ReadUnits.{All-got, units_from-alike, units_read}
 use Rattle.rx_meaning.proofs.NfaStarts.{one_worth, all_worth, start_gives}
-use Rattle.rx_meaning.proofs.Scan.{Scan, read_in, StandsAt, Asked, scan_of}
+use Rattle.rx_meaning.proofs.Scan.{Scan, read_in, StandsAt, PlanQuery, scan_of}
 use Rattle.rx_meaning.proofs.StartStates.{begin_state, first_state, begin_stands, begin_gives}
 use Rattle.rx_all.specs.Builds.{all_build}
 use Rattle.rx_all.specs.Matches.{AllAreTold, MatchesTo, query_at}
@@ -50,7 +50,7 @@ module _ (plan : Plan) (es : List Expression) (safe : All IsLoopSafe es) (text :
   abbrev pub Matches : ℕ → ℕ → Type 0
   Matches k end = MatchesTo es plan.line_terminator text p k end
 
-  abbrev pub asked : Asked
+  abbrev pub asked : PlanQuery
   asked = record {
     plan = plan;
     expressions = es;

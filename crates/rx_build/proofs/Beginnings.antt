@@ -8,7 +8,7 @@ use Rattle.rx_build_error.specs.Refusals.{IsRefused, TableRefused}
 use Rattle.rx_build_error.specs.declared.BuildErrorKind.{BuildErrorKind}
 use Rattle.rx_expr.specs.declared.thompson.build_error.BuildError as nfa
 use Rattle.rx_determinize.specs.Determinized as determinize
-use Rattle.rx_determinize.specs.Determinized.{IsBegunWith, IsDeterminized, Settings, build_in}
+use Rattle.rx_determinize.specs.Determinized.{IsBegunWith, IsDeterminized, build_in}
 use Rattle.rx_build.specs.Built.{begun, build_of, limits_of, settings_with}
 use Rattle.rx_build.specs.Making.{IsMade, determinized}
 use Rattle.rx_build.specs.Settings.{Settled}
@@ -68,20 +68,21 @@ refused_alike s quit b c kind same r =
 
 -- ---- a table that is determinized by a builder's settings
 
-pub record IsBegunBy (s : Settled) (nfa : Nfa) (settings : Settings) (l : Layout) : Type 0 where
+pub record IsBegunBy (s : Settled) (nfa : Nfa) (settings : determinize.Settled) (l : Layout) : Type 0 where
   pub settings_are : settings ≡ settings_with s (quit_set nfa s.quit s.unicode_word)
   pub layout_is : l ≡ begun s nfa
 
-pub begun_by : {s : Settled} {nfa : Nfa} {settings : Settings} {l : Layout} {quit set : ℕ} {unicode_word : Bool}
-    → quit ≡ quit_set nfa set unicode_word → set ≡ s.quit → unicode_word ≡ s.unicode_word
+pub begun_by : {s : Settled} {nfa : Nfa} {settings : determinize.Settled} {l : Layout} {quit set : ℕ}
+    {unicode_word : Bool} → quit ≡ quit_set nfa set unicode_word → set ≡ s.quit → unicode_word ≡ s.unicode_word
     → settings ≡ settings_with s quit → l ≡ begun s nfa → IsBegunBy s nfa settings l
 begun_by {s = s} {nfa = nfa} told set_is word_is settings_are layout_is = grind (arith, common_steps)
 
-module _ {s : Settled} {nfa : Nfa} {settings : Settings} {l : Layout} (by : IsBegunBy s nfa settings l) where
+module _ {s : Settled} {nfa : Nfa} {settings : determinize.Settled} {l : Layout} (by : IsBegunBy s nfa settings l) where
   pub begun_with : IsBegunWith nfa settings s.byte_classes l
   begun_with =
       subst (λ (m : Layout). IsBegunWith nfa settings s.byte_classes m) (sym by.layout_is)
-      (subst (λ (x : Settings). IsBegunWith nfa x s.byte_classes (begun s nfa)) (sym by.settings_are) (is_begun s nfa))
+      (subst (λ (x : determinize.Settled). IsBegunWith nfa x s.byte_classes (begun s nfa)) (sym by.settings_are)
+      (is_begun s nfa))
 
   build_is : build_in nfa settings l ≡ build_of s nfa
   build_is = ap₂ (λ x m. build_in nfa x m) by.settings_are by.layout_is ∙ same_build s nfa
@@ -97,7 +98,8 @@ module _ {s : Settled} {nfa : Nfa} {settings : Settings} {l : Layout} (by : IsBe
       → BuildFits (limits_of s) (build_of s nfa)
   fits_by fits =
       fits_alike s (quit_set nfa s.quit s.unicode_word) (build_of s nfa)
-      (subst (λ (x : Settings). BuildFits (determinize.limits_of x s.byte_classes) (build_of s nfa)) by.settings_are
+      (subst (λ (x : determinize.Settled). BuildFits (determinize.limits_of x s.byte_classes) (build_of s nfa))
+      by.settings_are
       (subst (λ (b : Build). BuildFits (determinize.limits_of settings s.byte_classes) b) build_is fits))
 
   pub refused_by : (kind : BuildErrorKind)
@@ -105,6 +107,6 @@ module _ {s : Settled} {nfa : Nfa} {settings : Settings} {l : Layout} (by : IsBe
       → IsRefused (TableRefused (limits_of s) (build_of s nfa)) kind
   refused_by kind refused =
       refused_alike s (quit_set nfa s.quit s.unicode_word) (build_in nfa settings l) (build_of s nfa) kind build_is
-      (subst (λ (x : Settings).
+      (subst (λ (x : determinize.Settled).
       IsRefused (TableRefused (determinize.limits_of x s.byte_classes) (build_in nfa settings l)) kind) by.settings_are
       refused)

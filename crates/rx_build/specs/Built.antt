@@ -43,7 +43,7 @@ limits_of s = record {
 }
 
 -- how it is determinized
-abbrev pub settings_with : Settled → ℕ → determinize.Settings
+abbrev pub settings_with : Settled → ℕ → determinize.Settled
 settings_with s quit = record {
   match_kind = s.match_kind;
   quit = quit;

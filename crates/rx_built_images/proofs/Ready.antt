@@ -3,8 +3,7 @@ use Rattle.rx_spec.proofs.Prelude.{◌≡◌, ℕ, ◌<◌, ◌^◌, true, leb, 
 use Rattle.rx_spec.proofs.Prelude.{row_of}
 use Rattle.rx_search.specs.Starts.{IsId}
 use Rattle.rx_dense.proofs.Rows.{id_at_row}
-use Rattle.rx_image_parts.specs.SpecialIds.{is_named}
-use Rattle.rx_image_parts.specs.SpecialIds.{are_special}
+use Rattle.rx_image_parts.specs.SpecialIds.{is_named, are_special}
 use Rattle.rx_image_parts.proofs.IdTables.{IdTable, named_is}
 use Rattle.rx_sparse.proofs.RowPlaces.{each_next}
 use Rattle.rx_sparse_image.proofs.RowIds.{id_table}

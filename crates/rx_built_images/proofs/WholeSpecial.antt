@@ -15,8 +15,7 @@ use Rattle.rx_image_parts.proofs.IdTables.{IdTable}
 use Rattle.rx_dense_image.proofs.IdTables.{id_table}
 use Rattle.rx_sparse.specs.Sparse.{AreSpecialRows}
 use Rattle.rx_sparse_build.proofs.Ordered.{special_rows}
-use Rattle.rx_image_parts.specs.SpecialIds.{are_special, begins_after, is_past_quit, is_range}
-use Rattle.rx_image_parts.specs.SpecialIds.{is_named}
+use Rattle.rx_image_parts.specs.SpecialIds.{are_special, begins_after, is_past_quit, is_range, is_named}
 use Rattle.rx_dense_image.specs.Closing.{are_named, are_special_rows}
 use Rattle.rx_image_parts.proofs.EachBelow.{all_of}
 use Rattle.rx_built_images.proofs.KindTests.{accelerated_low, after_of, low_accelerated, low_matches, matches_low}

@@ -1,6 +1,6 @@
 -- Needles that are compared byte by byte with the bytes that leave a row.
-use Rattle.rx_spec.proofs.Prelude.{◌≡◌, ◌≢◌, ℕ, ◌<◌, ◌≤◌, true, false, eqb, List, length, get_or, filter, refl, sym}
-use Rattle.rx_spec.proofs.Prelude.{ap, ◌∙◌, range_with_len, bytes_eq}
+use Rattle.rx_spec.proofs.Prelude.{◌≡◌, ◌≢◌, ℕ, ◌<◌, ◌≤◌, true, false, eqb, List, length, get_or, filter, refl, sym, ap}
+use Rattle.rx_spec.proofs.Prelude.{◌∙◌, range_with_len, bytes_eq}
 use Rattle.rx_dense.specs.Layouts.{Layout}
 use Rattle.rx_dense_image.specs.Closing.{leaves, leaving_id}
 use Rattle.rx_image_parts.proofs.LeavingBytes.{AreMet, too_few, another, all_met}

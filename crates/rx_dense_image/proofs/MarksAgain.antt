@@ -1,7 +1,7 @@
 -- What was written is read again: needles, and all marks.
-use Rattle.rx_spec.proofs.Prelude.{common_steps, ◌≡◌, ℕ, ◌+◌, ◌*◌, ◌<◌, ◌≤◌, List, [], ◌∷◌, ◌++◌, length, get_or}
-use Rattle.rx_spec.proofs.Prelude.{drop, map, Ok, refl, sym, ap, subst, ◌∙◌, append_assoc, arith, flat_map}
-use Rattle.rx_spec.proofs.Prelude.{range_with_len, w32, append-nil, fill_by_all}
+use Rattle.rx_spec.proofs.Prelude.{common_steps, ◌≡◌, ℕ, ◌+◌, ◌*◌, ◌<◌, ◌≤◌, List, [], ◌∷◌, ◌++◌, length, get_or, drop}
+use Rattle.rx_spec.proofs.Prelude.{map, Ok, refl, sym, ap, subst, ◌∙◌, append_assoc, arith, flat_map, range_with_len}
+use Rattle.rx_spec.proofs.Prelude.{w32, append-nil, fill_by_all}
 use Rattle.rx_wire.specs.declared.order.Order.{Order}
 use Rattle.rx_wire.specs.Kinds.{Reads}
 use Rattle.rx_wire.specs.Fields.{bytes_at, field}

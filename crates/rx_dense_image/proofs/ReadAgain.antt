@@ -1,7 +1,6 @@
 -- What was written is read again, whatever follows: the head and the rows.
-use Rattle.rx_spec.proofs.Prelude.{common_steps, ◌≡◌, ℕ, ◌%◌, ◌<◌, ◌≤◌, List, ◌++◌, length, get_or, drop}
-use Rattle.rx_spec.proofs.Prelude.{slice_index, refl, sym, ap, ◌∙◌, append_assoc, arith, rules, le-leb, and_from}
-use Rattle.rx_spec.proofs.Prelude.{fill_by_all}
+use Rattle.rx_spec.proofs.Prelude.{common_steps, ◌≡◌, ℕ, ◌%◌, ◌<◌, ◌≤◌, List, ◌++◌, length, get_or, drop, slice_index}
+use Rattle.rx_spec.proofs.Prelude.{refl, sym, ap, ◌∙◌, append_assoc, arith, rules, le-leb, and_from, fill_by_all}
 use Rattle.rx_wire.specs.declared.order.Order.{Order}
 use Rattle.rx_wire.specs.Kinds.{Reads}
 use Rattle.rx_wire.specs.Heads.{IsLabel}

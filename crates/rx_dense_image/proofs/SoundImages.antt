@@ -1,11 +1,11 @@
 -- A layout that is read and closed is a sound table.
-use Rattle.rx_spec.proofs.Prelude.{common_steps, ◌≡◌, ◌≢◌, ℕ, ◌+◌, ◌-◌, ◌*◌, ◌/◌, ◌%◌, ◌<◌, ◌≤◌, not, Bool, true}
-use Rattle.rx_spec.proofs.Prelude.{false, cond, ltb, leb, eqb, Option, Some, None, List, [], length, get_or}
-use Rattle.rx_spec.proofs.Prelude.{slice_index, Contains, refl, sym, ap, subst, ◌∙◌, arith, inl, inr, Result, Ok, Err}
-use Rattle.rx_spec.proofs.Prelude.{IfOk, list_all, bytes_eq, mul-div_cancel, mul-mod_left, and_parts, eq-eqb}
-use Rattle.rx_spec.proofs.Prelude.{eqb-true, le-ltb, leb-true, ltb-true, ne_eqb, cases_Bool, not-true, get_or-take}
-use Rattle.rx_spec.proofs.Prelude.{length-take, All-contains, mod-mul-add, pow_pos, row_fits, bytes_eq-Decides, Label}
-use Rattle.rx_spec.proofs.Prelude.{Anchored, IsSound, IsTable, leaving}
+use Rattle.rx_spec.proofs.Prelude.{common_steps, ◌≡◌, ◌≢◌, ℕ, ◌+◌, ◌-◌, ◌*◌, ◌/◌, ◌%◌, ◌<◌, ◌≤◌, not, Bool, true, false}
+use Rattle.rx_spec.proofs.Prelude.{cond, ltb, leb, eqb, Option, Some, None, List, [], length, get_or, slice_index}
+use Rattle.rx_spec.proofs.Prelude.{Contains, refl, sym, ap, subst, ◌∙◌, arith, inl, inr, Result, Ok, Err, IfOk}
+use Rattle.rx_spec.proofs.Prelude.{list_all, bytes_eq, mul-div_cancel, mul-mod_left, and_parts, eq-eqb, eqb-true}
+use Rattle.rx_spec.proofs.Prelude.{le-ltb, leb-true, ltb-true, ne_eqb, cases_Bool, not-true, get_or-take, length-take}
+use Rattle.rx_spec.proofs.Prelude.{All-contains, mod-mul-add, pow_pos, row_fits, bytes_eq-Decides, Label, Anchored}
+use Rattle.rx_spec.proofs.Prelude.{IsSound, IsTable, leaving}
 use Rattle.std.proofs.lemmas.List.Sums.{AllPass-from_list_all}
 use Rattle.rx_spec.specs.declared.Start.{Start}
 use Rattle.rx_base.specs.ByteClasses.{alphabet_len}

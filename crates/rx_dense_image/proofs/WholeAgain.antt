@@ -1,6 +1,6 @@
 -- A whole image is read again, in either order, whatever follows, and its length is told.
-use Rattle.rx_spec.proofs.Prelude.{common_steps, ◌≡◌, ℕ, ◌<◌, ◌≤◌, true, List, ◌++◌, length, slice_index, Ok}
-use Rattle.rx_spec.proofs.Prelude.{refl, ap, ◌∙◌, arith, max_id}
+use Rattle.rx_spec.proofs.Prelude.{common_steps, ◌≡◌, ℕ, ◌<◌, ◌≤◌, true, List, ◌++◌, length, slice_index, Ok, refl, ap}
+use Rattle.rx_spec.proofs.Prelude.{◌∙◌, arith, max_id}
 use Rattle.rx_wire.specs.declared.order.Order.{Order}
 use Rattle.rx_wire.specs.Kinds.{Reads}
 use Rattle.rx_dense.specs.declared.flags.Flags.{Flags}

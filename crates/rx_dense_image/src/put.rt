@@ -5,8 +5,6 @@
 ghost use Rattle.std.specs.Prelude.{◌≡◌, ℕ, ◌+◌, ◌*◌, ◌/◌, ◌^◌, ◌<◌, ◌≤◌, List, [], get_or, length, map};
 ghost use Rattle.rx_wire.specs.declared.order.Order.{Order};
 ghost use Rattle.rx_dense.specs.Layouts.{AreLists, AreStarts, context_number};
-ghost use Rattle.rx_image_parts.specs.Heads.{flags_word, head_text};
-ghost use Rattle.rx_dense_image.specs.Heads.{dense_label};
 ghost use Rattle.rx_image_parts.specs.Words.{words_text};
 ghost use Rattle.rx_dense_image.specs.Rows.{rows_of, rows_text};
 ghost use Rattle.rx_image_parts.specs.StartTables.{kind_number, number_or_none, start_table_text};
@@ -16,10 +14,10 @@ ghost use Rattle.rx_dense_image.specs.Images.{image_len, marks_of, pattern_lists
 ghost use Rattle.rx_image_parts.specs.Written.{IsPut};
 
 use rx_base::Needles;
-use rx_dense::{Accels, DFA, Flags, WordStore};
+use rx_dense::{Accels, DFA, WordStore};
 use rx_image_parts::{
-    CONTEXTS, ENDIANNESS, NONE, VERSION, context_number, flags_word, kind_number, put_plain,
-    put_quit, put_special, put_word, universal_word,
+    CONTEXTS, NONE, context_number, kind_number, put_head, put_plain, put_quit, put_special,
+    put_word, universal_word,
 };
 use rx_search::Automaton;
 use rx_wire::Endian;
@@ -38,19 +36,6 @@ fn put_words<E: Endian>(words: &[u32], dst: &mut [u8], at: usize) -> usize
         end = put_word::<E>(*word, dst, end);
     }
     end
-}
-
-fn put_head<E: Endian>(flags: &Flags, dst: &mut [u8], at: usize) -> usize
-    requires { at + 48 ≤ length dst.old }
-    ensures len { length dst.new ≡ length dst.old }
-    ensures place { result ≡ at + 48 }
-    ensures put { IsPut (head_text E.order dense_label flags.now) dst.old dst.new at result }
-{
-    let label = put_plain(&LABEL, dst, at);
-    let order = put_word::<E>(ENDIANNESS, dst, label);
-    let version = put_word::<E>(VERSION, dst, order);
-    let unused = put_word::<E>(0, dst, version);
-    put_word::<E>(flags_word(flags), dst, unused)
 }
 
 /// The number of rows, as a word.
@@ -245,7 +230,7 @@ pub(crate) fn put_image<E: Endian, T: WordStore>(dfa: &DFA<T>, dst: &mut [u8]) -
     ensures place { result ≡ image_len dfa.now }
     ensures put { IsPut (text E.order dfa.now) dst.old dst.new 0 result }
 {
-    let head = put_head::<E>(dfa.flags(), dst, 0);
+    let head = put_head::<E>(&LABEL, dfa.flags(), dst, 0);
     let rows = put_rows::<E, T>(dfa, dst, head);
     let starts = put_start_table::<E, T>(dfa, dst, rows);
     let lists = put_pattern_lists::<E, T>(dfa, dst, starts);

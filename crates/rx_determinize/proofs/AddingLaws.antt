@@ -7,14 +7,14 @@ use Rattle.rx_spec.proofs.Prelude.{div-add-mod', All-append, All-cons, All-nil, 
 use Rattle.rx_spec.proofs.Prelude.{Contains, IsTrue, ◌↔◌, Bool, false, not, if◌then◌else◌, IsReached, Exceeds, max_id}
 use Rattle.rx_spec.proofs.Prelude.{determinizer_size, label_total, table_size, State}
 use Rattle.rx_determinize.proofs.Prelude.{AreRows, BuildErrorKind, CanAdd, IsFull, IsOver, IsWithin, IsWorking, Keying}
-use Rattle.rx_determinize.proofs.Prelude.{Layout, Met, Passes, SizeLimits, mul-le-mul_left, no_more, row_count}
-use Rattle.rx_determinize.proofs.Prelude.{state_size, states_of, stride, with_row}
+use Rattle.rx_determinize.proofs.Prelude.{Layout, Met, Passes, Settled, mul-le-mul_left, no_more, row_count, state_size}
+use Rattle.rx_determinize.proofs.Prelude.{states_of, stride, with_row}
 use Rattle.std.proofs.lemmas.List.Quantifiers.{all_pairs_push}
 
 -- there are fewer keys than ids
-pub few_keys : {k : Keying} {limits : SizeLimits} {met : Met} {l : Layout} → IsWorking k limits met l → AreRows l
+pub few_keys : {k : Keying} {settled : Settled} {met : Met} {l : Layout} → IsWorking k settled met l → AreRows l
     → length met.keys < max_id
-few_keys {k} {limits} {met} {l} working rows =
+few_keys {k} {settled} {met} {l} working rows =
     let words : (length met.keys + 2) * stride l ≡ length l.words =
     omega (arith, ap (λ n. n * stride l) working.count) in
     omega (arith, mul-le-mul_left (length met.keys + 1) (pow_pos l.stride2))
@@ -42,8 +42,8 @@ met_with k met key = record {
   patterns = met.patterns + length (k.state_of key).label;
 }
 
-module _ {k : Keying} {limits : SizeLimits} {met : Met} {l : Layout} {key : List ℕ}
-    (working : IsWorking k limits met l) (new : IsNew k met key) where
+module _ {k : Keying} {settled : Settled} {met : Met} {l : Layout} {key : List ℕ}
+    (working : IsWorking k settled met l) (new : IsNew k met key) where
   all_states : states_of k (met_with k met key) ≡ states_of k met ++ k.state_of key ∷ []
   all_states = map-append k.state_of met.keys (key ∷ [])
 
@@ -103,7 +103,7 @@ module _ {k : Keying} {limits : SizeLimits} {met : Met} {l : Layout} {key : List
         omega (arith, ap (λ w. w / stride l) words, length_push met.keys key)
 
     -- a table that is full
-    pub is_over_full : (kind : BuildErrorKind) → IsFull l kind → IsOver k limits l kind
+    pub is_over_full : (kind : BuildErrorKind) → IsFull l kind → IsOver k settled l kind
     is_over_full (BuildErrorKind.NFA error) full = full
     is_over_full BuildErrorKind.Unsupported full = full
     is_over_full BuildErrorKind.TooManyStates full =
@@ -113,8 +113,8 @@ module _ {k : Keying} {limits : SizeLimits} {met : Met} {l : Layout} {key : List
     is_over_full _ full = absurd full
 
     -- a size that passes its limit
-    pub is_over : (kind : BuildErrorKind) → Passes limits (met_with k met key) (with_row l) kind
-        → IsOver k limits l kind
+    pub is_over : (kind : BuildErrorKind) → Passes settled (met_with k met key) (with_row l) kind
+        → IsOver k settled l kind
     is_over (BuildErrorKind.NFA error) passes = passes
     is_over BuildErrorKind.Unsupported passes = passes
     is_over BuildErrorKind.TooManyStates passes = absurd passes
@@ -129,8 +129,8 @@ module _ {k : Keying} {limits : SizeLimits} {met : Met} {l : Layout} {key : List
     is_over BuildErrorKind.Memory passes = tt
 
     -- no size passes its limit
-    pub working_more : IsWithin limits (met_with k met key) (with_row l)
-        → IsWorking k limits (met_with k met key) (with_row l)
+    pub working_more : IsWithin settled (met_with k met key) (with_row l)
+        → IsWorking k settled (met_with k met key) (with_row l)
     working_more within = record {
       bare = record {
         slices = working.bare.slices;
@@ -171,11 +171,11 @@ pub same_met : {keys others : List (List ℕ)} {size bytes patterns count : ℕ}
     → patterns ≡ count → met_of keys size patterns ≡ met_of others bytes count
 same_met e f g = cc
 
-pub new_key : {k : Keying} {limits : SizeLimits} {met : Met} {l : Layout} {keys : List (List ℕ)} {key : List ℕ}
+pub new_key : {k : Keying} {settled : Settled} {met : Met} {l : Layout} {keys : List (List ℕ)} {key : List ℕ}
     {is_new : Bool}
-    → CanAdd k limits met l key → keys ≡ met.keys → (IsTrue is_new ↔ ¬ Contains keys key) → not is_new ≡ false
+    → CanAdd k settled met l key → keys ≡ met.keys → (IsTrue is_new ↔ ¬ Contains keys key) → not is_new ≡ false
     → IsNew k met key
-new_key {k} {limits} {met} {l} {keys} {key} {is_new} can same new old = record {
+new_key {k} {settled} {met} {l} {keys} {key} {is_new} can same new old = record {
   one_key = can.one_key;
   is_key = can.is_key;
   reached = can.reached;
@@ -183,19 +183,19 @@ new_key {k} {limits} {met} {l} {keys} {key} {is_new} can same new old = record {
 }
 
 -- the same where the new parts are known by equations
-module _ {k : Keying} {limits : SizeLimits} {met : Met} {l : Layout} {key : List ℕ} {after : Met} {m : Layout}
-    (working : IsWorking k limits met l) (new : IsNew k met key) (rows : AreRows l)
+module _ {k : Keying} {settled : Settled} {met : Met} {l : Layout} {key : List ℕ} {after : Met} {m : Layout}
+    (working : IsWorking k settled met l) (new : IsNew k met key) (rows : AreRows l)
     (is_after : after ≡ met_with k met key) (is_more : m ≡ with_row l) where
-  pub over_new : (kind : BuildErrorKind) → Passes limits after m kind → IsOver k limits l kind
+  pub over_new : (kind : BuildErrorKind) → Passes settled after m kind → IsOver k settled l kind
   over_new kind passes =
       is_over working new rows kind
-      (subst (λ (n : Layout). Passes limits (met_with k met key) n kind) is_more
-      (subst (λ (a : Met). Passes limits a m kind) is_after passes))
+      (subst (λ (n : Layout). Passes settled (met_with k met key) n kind) is_more
+      (subst (λ (a : Met). Passes settled a m kind) is_after passes))
 
-  pub working_new : IsWithin limits after m → IsWorking k limits after m
+  pub working_new : IsWithin settled after m → IsWorking k settled after m
   working_new within =
-      subst (λ (n : Layout). IsWorking k limits after n) (sym is_more)
-      (subst (λ (a : Met). IsWorking k limits a (with_row l)) (sym is_after)
+      subst (λ (n : Layout). IsWorking k settled after n) (sym is_more)
+      (subst (λ (a : Met). IsWorking k settled a (with_row l)) (sym is_after)
       (working_more working new rows
-      (subst (λ (n : Layout). IsWithin limits (met_with k met key) n) is_more
-      (subst (λ (a : Met). IsWithin limits a m) is_after within))))
+      (subst (λ (n : Layout). IsWithin settled (met_with k met key) n) is_more
+      (subst (λ (a : Met). IsWithin settled a m) is_after within))))

@@ -3,8 +3,8 @@ use Rattle.rx_spec.proofs.Prelude.{arith, ◌≡◌, ℕ, List, length, refl, ap
 use Rattle.rx_spec.proofs.Prelude.{Exceeds, max_id, Nfa, last_id, table_size}
 use Rattle.rx_determinize.proofs.Prelude.{keying, AreRows, AreUnits, BuildErrorKind, Continues, Extends, HasOneKeyEach}
 use Rattle.rx_determinize.proofs.Prelude.{IsAnother, IsOver, IsRefusal, IsStartedOver, IsWorking, IsWrittenOver, Keying}
-use Rattle.rx_determinize.proofs.Prelude.{Layout, Met, Serves, SizeLimits, SpellStates, Stepping, Unit, Work}
-use Rattle.rx_determinize.proofs.Prelude.{classes_of, keys_in, stride}
+use Rattle.rx_determinize.proofs.Prelude.{Layout, Met, Serves, Settled, SpellStates, Stepping, Unit, Work, classes_of}
+use Rattle.rx_determinize.proofs.Prelude.{keys_in, stride}
 
 -- ---- tables of which words and start entries were written
 
@@ -47,7 +47,7 @@ module _ {w v : Work} {l m : Layout} (later : Continues w l v m) where
   pub same_quit : m.quit ≡ l.quit
   same_quit = ap (λ (n : Layout). n.quit) later.over.rest
 
-  pub serves_later : Serves w l → AreRows m → IsWorking (keys_in v m) v.limits v.met m → Serves v m
+  pub serves_later : Serves w l → AreRows m → IsWorking (keys_in v m) v.settled v.met m → Serves v m
   serves_later serves rows working =
       let nfa = ap (λ (t : Stepping). t.nfa) later.stepping in
       let spells : SpellStates (record w.stepping { current = v.stepping.current; led_in = v.stepping.led_in }) =
@@ -70,13 +70,13 @@ module _ {w v : Work} {l m : Layout} (later : Continues w l v m) where
   pub refused_later : (kind : BuildErrorKind) → IsRefusal v m kind → IsRefusal w l kind
   refused_later kind refusal =
       at kind
-      (subst (λ (k : Keying). IsOver k w.limits m kind) same_keys
-      (subst (λ (c : SizeLimits). IsOver (keys_in v m) c m kind) later.limits refusal))
+      (subst (λ (k : Keying). IsOver k w.settled m kind) same_keys
+      (subst (λ (c : Settled). IsOver (keys_in v m) c m kind) later.settled refusal))
     where
       width : stride m ≡ stride l
       width = ap stride later.over.rest
 
-      at : (kind : BuildErrorKind) → IsOver (keys_in w l) w.limits m kind → IsOver (keys_in w l) w.limits l kind
+      at : (kind : BuildErrorKind) → IsOver (keys_in w l) w.settled m kind → IsOver (keys_in w l) w.settled l kind
       at BuildErrorKind.TooManyStates over =
           subst (λ n. Exceeds (keys_in w l).build (λ states. last_id (length states) n) max_id) width over
       at (BuildErrorKind.DFAExceededSizeLimit limit) over = (

@@ -4,7 +4,7 @@ use Rattle.rx_spec.proofs.Prelude.{◌++◌, length, map, get_or, length-append,
 use Rattle.rx_spec.proofs.Prelude.{arith, ⊎_elim, map-append, cases_eq, slice_get_within, Bool, Option, IfSome}
 use Rattle.rx_spec.proofs.Prelude.{if◌then◌else◌, slice_get, ◌⊎◌, Node, Running, next_node, built_entry, State}
 use Rattle.rx_determinize.proofs.Prelude.{keying, Adds, AreRows, AreWritten, Grows, IsEntering, IsFilling, IsRowId}
-use Rattle.rx_determinize.proofs.Prelude.{IsRowOf, IsWorking, IsWrittenOver, Keying, Layout, Met, SizeLimits, Work}
+use Rattle.rx_determinize.proofs.Prelude.{IsRowOf, IsWorking, IsWrittenOver, Keying, Layout, Met, Settled, Work}
 use Rattle.rx_determinize.proofs.Prelude.{alphabet_len, column, column_within, entry_in, keys_in, machine_of, next_in}
 use Rattle.rx_determinize.proofs.Prelude.{row_count, rows_set, states_of, stride, unit_of, with_next, with_row}
 use Rattle.rx_determinize.proofs.ContinuesLaws.{continues_over, serves_later, started_over, written_over}
@@ -33,9 +33,9 @@ module _ (k : Keying) {met : Met} {l : Layout} {after : Met} {m : Layout} (grows
       (sym (ap (map k.state_of) grows.keys ∙ map-append k.state_of met.keys grows.more))
       (row_stays (states_of k met) (map k.state_of grows.more) node row is_row)
 
-  pub written_kept : {limits : SizeLimits} {set done : ℕ} → IsWorking k limits met l → IsWorking k limits after m
+  pub written_kept : {settled : Settled} {set done : ℕ} → IsWorking k settled met l → IsWorking k settled after m
       → AreWritten k met l set done → AreWritten k after m set done
-  written_kept {limits} {set} {done} before working old =
+  written_kept {settled} {set} {done} before working old =
       let count = before.count in
       record {
         within = omega (arith, ap length grows.keys, length-append met.keys grows.more);
@@ -115,11 +115,11 @@ module _ {l : Layout} {place : ℕ} {m : Layout} (is : IsRewritten l place m) wh
         is.others 1 unit (omega arith) is_unit (λ e. absurd (omega arith)) ∙ old.quit_ends unit is_unit;
   }
 
-  working_beside : {k : Keying} {limits : SizeLimits} {met : Met} → IsWorking k limits met l
-      → IsWorking k limits met m
-  working_beside {k} {limits} {met} w = subst (IsWorking k limits met) (sym is.over) over
+  working_beside : {k : Keying} {settled : Settled} {met : Met} → IsWorking k settled met l
+      → IsWorking k settled met m
+  working_beside {k} {settled} {met} w = subst (IsWorking k settled met) (sym is.over) over
     where
-      over : IsWorking k limits met (record l { words = m.words })
+      over : IsWorking k settled met (record l { words = m.words })
       over = record {
         bare = record { slices = w.bare.slices; pattern_ids = w.bare.pattern_ids; accels = w.bare.accels };
         count = ap (λ n. n / stride l) is.count ∙ w.count;
@@ -129,7 +129,8 @@ module _ {l : Layout} {place : ℕ} {m : Layout} (is : IsRewritten l place m) wh
         size = w.size;
         patterns = w.patterns;
         few_patterns = w.few_patterns;
-        table = λ some. limit_kept limits.table (w.table some) (ap (λ n. 4 * (n + length l.starts + 1)) is.count);
+        table = λ some.
+            limit_kept settled.dfa_size_limit (w.table some) (ap (λ n. 4 * (n + length l.starts + 1)) is.count);
         construction = w.construction;
       }
 
@@ -141,7 +142,7 @@ module _ {l : Layout} {place : ℕ} {m : Layout} (is : IsRewritten l place m) wh
       record {
         serves =
             serves_later (continues_over w (started_over is.over)) old.serves is.rows
-            (subst (λ (k : Keying). IsWorking k w.limits w.met m) (sym same) (working_beside old.serves.working));
+            (subst (λ (k : Keying). IsWorking k w.settled w.met m) (sym same) (working_beside old.serves.working));
         written =
             subst (λ (k : Keying). AreWritten k w.met m set place) (sym same)
             (written_beside (omega arith) place_in old.serves.working.count old.written);

@@ -6,9 +6,9 @@ use Rattle.rx_spec.proofs.Prelude.{label_total, last_id, table_size, State}
 use Rattle.rx_determinize.proofs.Prelude.{keying, AreClasses, AreLabels, AreRows, AreUnits, AreWritten, Beginning}
 use Rattle.rx_determinize.proofs.Prelude.{BuildErrorKind, Continues, HasEntries, HasOneKeyEach, HasStates, IsBegunWith}
 use Rattle.rx_determinize.proofs.Prelude.{IsEntering, IsOver, IsRefusal, IsWorking, Keying, Layout, Matches, Met}
-use Rattle.rx_determinize.proofs.Prelude.{NamesPatterns, Settings, SizeLimits, SpellStates, Stepping, Work, build_in}
-use Rattle.rx_determinize.proofs.Prelude.{build_stride, classes_of, keys_in, limits_of, none_met, shaped_initial}
-use Rattle.rx_determinize.proofs.Prelude.{start_entries, states_of, stride}
+use Rattle.rx_determinize.proofs.Prelude.{NamesPatterns, Settled, SpellStates, Stepping, Work, build_in, build_stride}
+use Rattle.rx_determinize.proofs.Prelude.{classes_of, keys_in, limits_of, none_met, shaped_initial, start_entries}
+use Rattle.rx_determinize.proofs.Prelude.{states_of, stride}
 use Rattle.rx_spec.specs.Sizes as sizes
 use Rattle.lemmas_tables.proofs.Sizes.{determinizer_grows, exceeds_exactly, ids_grow, labels_grow, table_grows}
 use Rattle.rx_build_error.specs.Refusals.{IsRefused, TableRefused}
@@ -16,15 +16,11 @@ use Rattle.rx_determinize.proofs.ContinuesLaws.{same_keys}
 use Rattle.rx_determinize.proofs.BuiltLaws.{IsBuilt, has_states, reached, states_count}
 use Rattle.rx_determinize.proofs.StartLaws.{working_begun, written_begun}
 
--- the limits of settings
-abbrev pub limits_in : Settings → SizeLimits
-limits_in settings = record { table = settings.dfa_size_limit; construction = settings.determinize_size_limit }
-
 pub not_unsupported : {b : Build} → IsSupported b → IsUnsupported b → ⊥
 not_unsupported supported un = un.lacks (supported un.looks)
 
 -- how a table is begun
-abbrev pub beginning_of : Nfa → Settings → Bool → Layout → Beginning
+abbrev pub beginning_of : Nfa → Settled → Bool → Layout → Beginning
 beginning_of nfa settings byte_classes l = record {
   classes = classes_of nfa settings.quit byte_classes;
   pattern_len = length nfa.start_patterns;
@@ -36,13 +32,13 @@ beginning_of nfa settings byte_classes l = record {
 }
 
 -- a table that is begun, and the construction for it
-pub record Begins (w : Work) (nfa : Nfa) (settings : Settings) (byte_classes : Bool) (l : Layout) : Type 0 where
+pub record Begins (w : Work) (nfa : Nfa) (settings : Settled) (byte_classes : Bool) (l : Layout) : Type 0 where
   pub begun : IsBegunWith nfa settings byte_classes l
   pub nfa_is : w.stepping.nfa ≡ nfa
   pub kind_is : w.stepping.kind ≡ settings.match_kind
-  pub limits_are : w.limits ≡ limits_in settings
+  pub settled_is : w.settled ≡ settings
 
-module _ {w : Work} {nfa : Nfa} {settings : Settings} {byte_classes : Bool} {l : Layout}
+module _ {w : Work} {nfa : Nfa} {settings : Settled} {byte_classes : Bool} {l : Layout}
     (x : Begins w nfa settings byte_classes l) where
   abbrev s : Stepping
   s = w.stepping
@@ -78,8 +74,8 @@ module _ {w : Work} {nfa : Nfa} {settings : Settings} {byte_classes : Bool} {l :
     serves = record {
       rows = begun_rows are names;
       working =
-          subst (λ (m : Met). IsWorking (keys_in w l) w.limits m l) (sym none)
-          (working_begun (keys_in w l) w.limits beginning l x.begun);
+          subst (λ (m : Met). IsWorking (keys_in w l) w.settled m l) (sym none)
+          (working_begun (keys_in w l) w.settled beginning l x.begun);
       byte_classes = byte_classes;
       are_classes = classes_are;
       classes = classes;
@@ -108,14 +104,14 @@ module _ {w : Work} {nfa : Nfa} {settings : Settings} {byte_classes : Bool} {l :
   pub refused : (kind : BuildErrorKind) → (IsUnsupported b → ⊥) → IsRefusal w l kind
       → IsRefused (TableRefused (limits_of settings byte_classes) b) kind
   refused kind supported over =
-      at kind (subst (λ (other : Build). IsOver (record (keying s l) { build = other }) (limits_in settings) l kind)
-      build_is (subst (λ (limits : SizeLimits). IsOver (keying s l) limits l kind) x.limits_are over))
+      at kind (subst (λ (other : Build). IsOver (record (keying s l) { build = other }) settings l kind)
+      build_is (subst (λ (settled : Settled). IsOver (keying s l) settled l kind) x.settled_is over))
     where
       k : Keying
       k = record { build = b; is_key = s.is_key; state_of = s.state_of }
 
       at : (kind : BuildErrorKind) → IsOver (record { build = b; is_key = s.is_key; state_of = s.state_of })
-          (limits_in settings) l kind
+          settings l kind
           → IsRefused (TableRefused (limits_of settings byte_classes) b) kind
       at BuildErrorKind.TooManyStates over = (
         supported,
@@ -159,8 +155,8 @@ module _ {w : Work} {nfa : Nfa} {settings : Settings} {byte_classes : Bool} {l :
     same_build : (keys_in v m).build ≡ b
     same_build = ap (λ (k : Keying). k.build) (same_keys later) ∙ build_is
 
-    limits_then : v.limits ≡ limits_in settings
-    limits_then = later.limits ∙ x.limits_are
+    settled_then : v.settled ≡ settings
+    settled_then = later.settled ∙ x.settled_is
 
     all_reached : AreReached b states
     all_reached = subst (λ (c : Build). AreReached c states) same_build (reached built)
@@ -197,15 +193,15 @@ module _ {w : Work} {nfa : Nfa} {settings : Settings} {byte_classes : Bool} {l :
           let passed = (exceeds_exactly b (λ xs. table_size (length xs) w n) limit states (table_grows w n)
           all_reached).0 e in
           let some : 0 < length met.keys = omega (arith, keys) in
-          let low = at_limit v.limits.table limit (4 * (length m.words + length m.starts + 1))
-          (ap (λ (c : SizeLimits). c.table) limits_then ∙ is)
+          let low = at_limit v.settled.dfa_size_limit limit (4 * (length m.words + length m.starts + 1))
+          (ap (λ (c : Settled). c.dfa_size_limit) settled_then ∙ is)
           (built.entering.serves.working.table some) in
           absurd (omega (arith, words, starts));
       construction = λ limit is e.
           let passed = (exceeds_exactly b determinizer_size limit states determinizer_grows all_reached).0 e in
           let some : 0 < length met.keys = omega (arith, keys) in
-          let low = at_limit v.limits.construction limit met.size
-          (ap (λ (c : SizeLimits). c.construction) limits_then ∙ is)
+          let low = at_limit v.settled.determinize_size_limit limit met.size
+          (ap (λ (c : Settled). c.determinize_size_limit) settled_then ∙ is)
           (built.entering.serves.working.construction some) in
           absurd (omega arith);
     }

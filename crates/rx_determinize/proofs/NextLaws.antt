@@ -5,7 +5,7 @@ use Rattle.rx_spec.proofs.Prelude.{subst, arith, div-mul-add, pow_pos, Bool, Res
 use Rattle.rx_spec.proofs.Prelude.{MatchBool, [], contains, Build, Node, Running, IsReached, is_dead_state, next_node}
 use Rattle.rx_spec.proofs.Prelude.{State, step}
 use Rattle.rx_determinize.proofs.Prelude.{keying, Adds, AreRows, CanAdd, FindsRow, IsKeyOf, IsOver, IsRowId, IsRowOf}
-use Rattle.rx_determinize.proofs.Prelude.{IsStepped, IsWorking, IsWrittenOver, Keying, Layout, Met, Serves, SizeLimits}
+use Rattle.rx_determinize.proofs.Prelude.{IsStepped, IsWorking, IsWrittenOver, Keying, Layout, Met, Serves, Settled}
 use Rattle.rx_determinize.proofs.Prelude.{Stepping, Work, alphabet_len, keys_in, no_more, states_of, stepped, stride}
 use Rattle.rx_determinize.proofs.Prelude.{unit_of, zero_id}
 use Rattle.rx_determinize.proofs.FillingLaws.{adds_over, grows_by}
@@ -16,7 +16,7 @@ use Rattle.rx_determinize.proofs.ColumnLaws.{unit_in}
 
 -- The key of a state that is reached may be added.
 pub key_may : {w : Work} {l : Layout} {key : List ℕ} {state : State} → Serves w l → IsKeyOf w.stepping key state
-    → IsReached (keys_in w l).build state → CanAdd (keys_in w l) w.limits w.met l key
+    → IsReached (keys_in w l).build state → CanAdd (keys_in w l) w.settled w.met l key
 key_may {w} {l} {key} serves is reached = record {
   working = serves.working;
   one_key = serves.one_key;
@@ -26,17 +26,18 @@ key_may {w} {l} {key} serves is reached = record {
 }
 
 -- what is said of one that steps states is said of another that is the same
-module _ (l : Layout) {s t : Stepping} (same : s ≡ t) (limits : SizeLimits) where
-  pub may_by : {met : Met} {key : List ℕ} → CanAdd (keying t l) limits met l key → CanAdd (keying s l) limits met l key
-  may_by {met} {key} can = subst (λ (u : Stepping). CanAdd (keying u l) limits met l key) (sym same) can
+module _ (l : Layout) {s t : Stepping} (same : s ≡ t) (settled : Settled) where
+  pub may_by : {met : Met} {key : List ℕ} → CanAdd (keying t l) settled met l key
+      → CanAdd (keying s l) settled met l key
+  may_by {met} {key} can = subst (λ (u : Stepping). CanAdd (keying u l) settled met l key) (sym same) can
 
   pub working_by : {E : Type 0} (r : Result ℕ E) (met : Met) (m : Layout)
-      → OnOk r (IsWorking (keying s l) limits met m) → OnOk r (IsWorking (keying t l) limits met m)
-  working_by r met m working = subst (λ (u : Stepping). OnOk r (IsWorking (keying u l) limits met m)) same working
+      → OnOk r (IsWorking (keying s l) settled met m) → OnOk r (IsWorking (keying t l) settled met m)
+  working_by r met m working = subst (λ (u : Stepping). OnOk r (IsWorking (keying u l) settled met m)) same working
 
-  pub over_by : (r : Result ℕ BuildError) → IfErr r (λ error. IsOver (keying s l) limits l error.kind)
-      → IfErr r (λ error. IsOver (keying t l) limits l error.kind)
-  over_by r over = subst (λ (u : Stepping). IfErr r (λ error. IsOver (keying u l) limits l error.kind)) same over
+  pub over_by : (r : Result ℕ BuildError) → IfErr r (λ error. IsOver (keying s l) settled l error.kind)
+      → IfErr r (λ error. IsOver (keying t l) settled l error.kind)
+  over_by r over = subst (λ (u : Stepping). IfErr r (λ error. IsOver (keying u l) settled l error.kind)) same over
 
 pub in_true : {P : Type 0} (Q : Type 0) (b : Bool) → b ≡ true → P → MatchBool b P Q
 in_true Q b e p = grind (arith, common_steps, cases_Bool)
@@ -56,9 +57,9 @@ pub stepped_alike : {w : Work} {l : Layout} (column other : ℕ) {id : ℕ}
 stepped_alike {w} {l} column other {id} same led = grind (arith, common_steps)
 
 -- what stays so, if the table is as it was but for its words
-pub working_over : (s : Stepping) {limits : SizeLimits} {met : Met} (l m : Layout) → IsWrittenOver l m
-    → IsWorking (keying s l) limits met m → IsWorking (keying s m) limits met m
-working_over s {limits} {met} l m is w = subst (λ (k : Keying). IsWorking k limits met m) (sym (ap (keying s) is)) w
+pub working_over : (s : Stepping) {settled : Settled} {met : Met} (l m : Layout) → IsWrittenOver l m
+    → IsWorking (keying s l) settled met m → IsWorking (keying s m) settled met m
+working_over s {settled} {met} l m is w = subst (λ (k : Keying). IsWorking k settled met m) (sym (ap (keying s) is)) w
 
 -- a state that isn't dead goes on by a unit that isn't a quit byte
 pub goes_on : (b : Build) (s : State) (unit : ℕ) → is_dead_state s ≡ false → contains b.quit unit ≡ false
@@ -115,7 +116,7 @@ found_before {w} {v} {l} {node} {id} is serves is_row is_id = grind (arith, comm
 -- a key was added
 pub found_added : {w v : Work} {l : Layout} {E : Type 0} (r : Result ℕ E) {key : List ℕ} {state : State} (m : Layout)
     → v ≡ record w { met = v.met } → Serves w l → IsKeyOf w.stepping key state → IfOk r (Adds w.met l key v.met m)
-    → IfOk r (IsRowId m) → OnOk r (AreRows m) → OnOk r (IsWorking (keys_in w l) w.limits v.met m)
+    → IfOk r (IsRowId m) → OnOk r (AreRows m) → OnOk r (IsWorking (keys_in w l) w.settled v.met m)
     → IfOk r (FindsRow w l (Running state) v m)
 found_added {w} {v} {l} (Ok id) {key} {state} m is serves at adds is_id rows working =
     let over = adds_over adds in

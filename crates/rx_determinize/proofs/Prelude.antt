@@ -17,14 +17,14 @@ pub use Rattle.rx_determinize.specs.Adding.{Adds, CanAdd, IsFull, IsWithin, Pass
 pub use Rattle.rx_determinize.specs.Building.{HasStates}
 pub use Rattle.rx_determinize.specs.Constructions.{AreUnits, Continues, Extends, IsAnother, IsRefusal, IsStartedOver}
 pub use Rattle.rx_determinize.specs.Constructions.{IsWrittenOver, Serves, Work, keys_in, work_of}
-pub use Rattle.rx_determinize.specs.Determinized.{IsBegunWith, IsDeterminized, Settings, build_in, classes_of}
+pub use Rattle.rx_determinize.specs.Determinized.{IsBegunWith, IsDeterminized, Settled, build_in, classes_of}
 pub use Rattle.rx_determinize.specs.Determinized.{limits_of}
 pub use Rattle.rx_determinize.specs.Filling.{AreWritten, FindsRow, Grows, HasEntries, IsEntering, IsFilling, IsReady}
 pub use Rattle.rx_determinize.specs.Filling.{IsStepped, IsStepping, StartsAt, begun_at, next_column, none_stepped}
 pub use Rattle.rx_determinize.specs.Matching.{AreLabels, IsLabelAt, patterns_told}
 pub use Rattle.rx_determinize.specs.Models.{AreModels, IsAllAlone, IsExploring, IsKeyAt, IsModel, kept_in, model_row}
 pub use Rattle.rx_determinize.specs.WorkLists.{AreStartRows, Interns, IsRowOf, IsWorkList, next_row, nodes}
-pub use Rattle.rx_determinize.specs.Working.{IsOver, IsWorking, Keying, Met, SizeLimits, entry_in, next_in, none_met}
+pub use Rattle.rx_determinize.specs.Working.{IsOver, IsWorking, Keying, Met, entry_in, next_in, none_met}
 pub use Rattle.rx_determinize.specs.Working.{keying}
 pub use Rattle.rx_determinize.specs.Working.{states_of}
 pub use Rattle.rx_expr.specs.Nfa.{meaning}

@@ -9,7 +9,7 @@ use Rattle.rx_spec.proofs.Prelude.{has_unanchored, start_state}
 use Rattle.std.proofs.lemmas.Bool.{cases_Bool}
 use Rattle.rx_determinize.proofs.Prelude.{context_at-number, keying, AreWritten, Beginning, Continues, FindsRow}
 use Rattle.rx_determinize.proofs.Prelude.{IsEntering, IsRowOf, IsStartedOver, IsWord-nil, IsWorking, Keying, Layout}
-use Rattle.rx_determinize.proofs.Prelude.{Met, SizeLimits, Work, context_number, entry_in, initial, keys_in, mode_place}
+use Rattle.rx_determinize.proofs.Prelude.{Met, Settled, Work, context_number, entry_in, initial, keys_in, mode_place}
 use Rattle.rx_determinize.proofs.Prelude.{none_met, rows_kept, run-nil, states_of, stride, with_start, zero_at}
 use Rattle.std.proofs.lemmas.List.{length-set}
 use Rattle.rx_spec.specs.Builds.{pattern_modes}
@@ -107,9 +107,9 @@ module _ {k : Keying} {met : Met} {l : Layout} {mode : Anchored} {start : Start}
           (entry_in (with_start l mode start id) other context)
       here other context same = grind (arith, common_steps)
 
-working_started : {k : Keying} {limits : SizeLimits} {met : Met} (l : Layout) (mode : Anchored) (start : Start)
-    (id : ℕ) → IsWorking k limits met l → IsWorking k limits met (with_start l mode start id)
-working_started {limits = limits} l mode start id w = grind (arith, common_steps)
+working_started : {k : Keying} {settled : Settled} {met : Met} (l : Layout) (mode : Anchored) (start : Start)
+    (id : ℕ) → IsWorking k settled met l → IsWorking k settled met (with_start l mode start id)
+working_started {settled = settled} l mode start id w = grind (arith, common_steps)
 
 started_with : (l : Layout) (mode : Anchored) (start : Start) (id : ℕ) → IsStartedOver l (with_start l mode start id)
 started_with l mode start id = record { rest = refl; count = count_kept l mode start id }
@@ -165,9 +165,9 @@ pub zero_row : (l : Layout) → 0 / stride l ≡ 0
 zero_row l = grind (arith, common_steps)
 
 -- it has the dead row and the quit row, which lead to dead
-pub working_begun : (k : Keying) (limits : SizeLimits) (b : Beginning) (l : Layout) → l ≡ initial b
-    → IsWorking k limits none_met l
-working_begun k limits b l is = grind (arith, common_steps, pow_pos)
+pub working_begun : (k : Keying) (settled : Settled) (b : Beginning) (l : Layout) → l ≡ initial b
+    → IsWorking k settled none_met l
+working_begun k settled b l is = grind (arith, common_steps, pow_pos)
 
 pub written_begun : (k : Keying) (b : Beginning) (l : Layout) → l ≡ initial b → AreWritten k none_met l 0 0
 written_begun k b l is = grind (arith, common_steps, zero_at, zero_row)
@@ -186,7 +186,7 @@ module _ {w : Work} {after : Met} {l m : Layout} (mode : Anchored) (start : Star
         written =
             subst (λ (k : Keying). AreWritten k after m (place_of mode start) 0) (sym same)
             (written_kept (keys_in w l) found.grows entering.serves.working
-            (subst (λ (k : Keying). IsWorking k w.limits after m) same found.serves.working) entering.written);
+            (subst (λ (k : Keying). IsWorking k w.settled after m) same found.serves.working) entering.written);
       } in
       entering_started
       (record {

@@ -172,7 +172,7 @@ module _ {w : Work} {l : Layout} {at : Progress} {last : Last} (stepping : IsSte
               (subst (λ n. AreWritten (keys_in w l) after m n at.place)
               (sym (ap (λ (k : Layout). length k.starts) found.over))
               (written_kept (keys_in w l) found.grows old.serves.working
-              (subst (λ (k : Keying). IsWorking k w.limits after m) same_build found.serves.working) old.written));
+              (subst (λ (k : Keying). IsWorking k w.settled after m) same_build found.serves.working) old.written));
         };
         filling =
             subst (λ (k : Keying). IsFilling k after m at.place w.stepping.current (IsReady w.stepping m at))
@@ -229,7 +229,7 @@ entering_other w r {l} {set} {done} another old =
     record {
       serves =
           serves_later later old.serves old.serves.rows
-          (subst (λ (k : Keying). IsWorking k w.limits w.met l) (sym same) old.serves.working);
+          (subst (λ (k : Keying). IsWorking k w.settled w.met l) (sym same) old.serves.working);
       written = subst (λ (k : Keying). AreWritten k w.met l set done) (sym same) old.written;
     }
 

@@ -7,11 +7,12 @@ use Rattle.rx_build_error.specs.declared.BuildErrorKind.{BuildErrorKind}
 use Rattle.rx_determinize.specs.WorkLists.{Interns}
 use Rattle.rx_spec.specs.Builds.{IsReached}
 use Rattle.rx_stepper.specs.Keys.{label_of}
-use Rattle.rx_determinize.specs.Working.{Keying, Met, SizeLimits, IsWorking, bytes_of}
+use Rattle.rx_determinize.specs.Determinized.{Settled}
+use Rattle.rx_determinize.specs.Working.{Keying, Met, IsWorking, bytes_of}
 
 -- A key of a state that is reached may be added. It spells its state's label.
-pub record CanAdd (k : Keying) (limits : SizeLimits) (met : Met) (l : Layout) (key : List ℕ) : Type 0 where
-  pub working : IsWorking k limits met l
+pub record CanAdd (k : Keying) (settled : Settled) (met : Met) (l : Layout) (key : List ℕ) : Type 0 where
+  pub working : IsWorking k settled met l
   pub one_key : (i j : List ℕ) → k.is_key i ≡ true → k.is_key j ≡ true → k.state_of i ≡ k.state_of j → i ≡ j
   pub is_key : k.is_key key ≡ true
   pub reached : IsReached k.build (k.state_of key)
@@ -25,18 +26,19 @@ pub record Adds (met : Met) (l : Layout) (key : List ℕ) (after : Met) (m : Lay
   pub id_is : id ≡ (place + 2) * stride l
 
 -- no size passes its limit
-pub record IsWithin (limits : SizeLimits) (met : Met) (l : Layout) : Type 0 where
+pub record IsWithin (settled : Settled) (met : Met) (l : Layout) : Type 0 where
   pub patterns : met.patterns ≤ max_id
-  pub table : IfSome limits.table (λ limit. bytes_of l ≤ limit)
-  pub construction : IfSome limits.construction (λ limit. met.size ≤ limit)
+  pub table : IfSome settled.dfa_size_limit (λ limit. bytes_of l ≤ limit)
+  pub construction : IfSome settled.determinize_size_limit (λ limit. met.size ≤ limit)
 
 -- one does
-abbrev pub Passes : SizeLimits → Met → Layout → BuildErrorKind → Type 0
-Passes limits met l BuildErrorKind.TooManyMatchPatternIDs = max_id < met.patterns
-Passes limits met l (BuildErrorKind.DFAExceededSizeLimit limit) = (limits.table ≡ Some limit) × (limit < bytes_of l)
-Passes limits met l (BuildErrorKind.DeterminizeExceededSizeLimit limit) =
-    (limits.construction ≡ Some limit) × (limit < met.size)
-Passes limits met l _ = ⊥
+abbrev pub Passes : Settled → Met → Layout → BuildErrorKind → Type 0
+Passes settled met l BuildErrorKind.TooManyMatchPatternIDs = max_id < met.patterns
+Passes settled met l (BuildErrorKind.DFAExceededSizeLimit limit) =
+    (settled.dfa_size_limit ≡ Some limit) × (limit < bytes_of l)
+Passes settled met l (BuildErrorKind.DeterminizeExceededSizeLimit limit) =
+    (settled.determinize_size_limit ≡ Some limit) × (limit < met.size)
+Passes settled met l _ = ⊥
 
 -- why a table gets no further row
 abbrev pub IsFull : Layout → BuildErrorKind → Type 0

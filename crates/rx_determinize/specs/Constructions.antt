@@ -9,19 +9,19 @@ use Rattle.rx_dense.specs.Layouts.{Layout, AreRows}
 use Rattle.rx_stepper.specs.Stepping.{HasOneKeyEach, SpellStates, Stepping}
 use Rattle.rx_stepper.specs.Steppers.{stepping_of}
 use Rattle.rx_build_error.specs.declared.BuildErrorKind.{BuildErrorKind}
-use Rattle.rx_determinize.specs.Determinized.{classes_of}
-use Rattle.rx_determinize.specs.Working.{Keying, Met, SizeLimits, IsOver, IsWorking, keying}
+use Rattle.rx_determinize.specs.Determinized.{Settled, classes_of}
+use Rattle.rx_determinize.specs.Working.{Keying, Met, IsOver, IsWorking, keying}
 use Rattle.rx_determinize.specs.declared.construction.Construction.{Construction}
 
--- what steps states, the states that were met, the most bytes, and the units by which the table's columns step
+-- what steps states, the states that were met, the settings, and the units by which the table's columns step
 pub record Work : Type 0 where
   pub stepping : Stepping
   pub met : Met
-  pub limits : SizeLimits
+  pub settled : Settled
   pub units : List Unit
 
 abbrev pub work_of : Construction → Work
-work_of c = record { stepping = stepping_of c.stepper; met = c.states; limits = c.limits; units = c.units.items }
+work_of c = record { stepping = stepping_of c.stepper; met = c.states; settled = c.config.now; units = c.units.items }
 
 abbrev pub keys_in : Work → Layout → Keying
 keys_in w l = keying w.stepping l
@@ -34,7 +34,7 @@ AreUnits units classes = map unit_number units ≡ representatives (ends_of clas
 -- NFA's bytes, or one for each byte.
 pub record Serves (w : Work) (l : Layout) : Type 0 where
   pub rows : AreRows l
-  pub working : IsWorking (keys_in w l) w.limits w.met l
+  pub working : IsWorking (keys_in w l) w.settled w.met l
   pub byte_classes : Bool
   pub are_classes : l.classes ≡ classes_of w.stepping.nfa l.quit byte_classes
   pub classes : w.stepping.classes ≡ l.classes
@@ -59,15 +59,15 @@ pub record IsStartedOver (old new : Layout) : Type 0 where
   pub rest : new ≡ record old { words = new.words; starts = new.starts }
   pub count : length new.starts ≡ length old.starts
 
--- A construction went on: it steps states of the same NFA within the same limits, has every state that it had, and of
+-- A construction went on: it steps states of the same NFA with the same settings, has every state that it had, and of
 -- its table it wrote words and start entries.
 pub record Continues (w : Work) (l : Layout) (v : Work) (m : Layout) : Type 0 where
   pub stepping : IsAnother w.stepping v.stepping
-  pub limits : v.limits ≡ w.limits
+  pub settled : v.settled ≡ w.settled
   pub units : v.units ≡ w.units
   pub keys : Extends w.met.keys v.met.keys
   pub over : IsStartedOver l m
 
 -- why it can't go on
 abbrev pub IsRefusal : Work → Layout → BuildErrorKind → Type 0
-IsRefusal w l kind = IsOver (keys_in w l) w.limits l kind
+IsRefusal w l kind = IsOver (keys_in w l) w.settled l kind

@@ -13,7 +13,7 @@ use Rattle.rx_dense.specs.Layouts.{Layout, table_of, row_count}
 use Rattle.rx_order.specs.RowOrder.{IsInOrder, IsPlain, AreJoined, is_start_row}
 
 -- which matches are told, the bytes that can't be searched, and the most bytes of the table and of all states
-pub record Settings : Type 0 where
+pub record Settled : Type 0 where
   pub match_kind : MatchKind
   pub quit : ℕ
   pub dfa_size_limit : Option ℕ
@@ -24,7 +24,7 @@ abbrev pub classes_of : Nfa → ℕ → Bool → List ℕ
 classes_of nfa quit byte_classes = map (class_by (ends_class nfa quit byte_classes)) (range_with_len 0 256)
 
 -- A table that is begun for an NFA and these settings, with its byte classes or without.
-abbrev pub IsBegunWith : Nfa → Settings → Bool → Layout → Type 0
+abbrev pub IsBegunWith : Nfa → Settled → Bool → Layout → Type 0
 IsBegunWith nfa s byte_classes l = l ≡ initial (record {
   classes = classes_of nfa s.quit byte_classes;
   pattern_len = length nfa.start_patterns;
@@ -35,11 +35,11 @@ IsBegunWith nfa s byte_classes l = l ≡ initial (record {
   flags = l.flags;
 })
 
-abbrev pub IsBegun : Nfa → Settings → Layout → Type 0
+abbrev pub IsBegun : Nfa → Settled → Layout → Type 0
 IsBegun nfa s l = (byte_classes : Bool) × IsBegunWith nfa s byte_classes l
 
 -- what is built into it
-abbrev pub build_in : Nfa → Settings → Layout → Build
+abbrev pub build_in : Nfa → Settled → Layout → Build
 build_in nfa s l = record {
   nfa = nfa;
   kind = s.match_kind;
@@ -49,7 +49,7 @@ build_in nfa s l = record {
 }
 
 -- what refuses it
-abbrev pub limits_of : Settings → Bool → Limits
+abbrev pub limits_of : Settled → Bool → Limits
 limits_of s byte_classes = record {
   byte_classes = byte_classes;
   form = Form.Dense;

@@ -10,6 +10,7 @@ use Rattle.rx_spec.specs.declared.Start.{Start}
 use Rattle.rx_dense.specs.Layouts.{Layout, machine_of, row_count, stride}
 use Rattle.rx_stepper.specs.Stepping.{Stepping}
 use Rattle.rx_build_error.specs.declared.BuildErrorKind.{BuildErrorKind}
+use Rattle.rx_determinize.specs.Determinized.{Settled}
 
 -- what a stepper steps for a table: the table's build, and what keys stand for
 pub record Keying : Type 0 where
@@ -42,11 +43,6 @@ none_met = record { keys = []; size = 0; patterns = 0 }
 abbrev pub states_of : Keying → Met → List State
 states_of k met = map k.state_of met.keys
 
--- the most bytes of a table, and of all states of its construction
-pub record SizeLimits : Type 0 where
-  pub table : Option ℕ
-  pub construction : Option ℕ
-
 -- the bytes of a table that has no patterns yet
 abbrev pub bytes_of : Layout → ℕ
 bytes_of l = 4 * (length l.words + length l.starts + 1)
@@ -58,7 +54,7 @@ pub record IsBare (l : Layout) : Type 0 where
   pub accels : l.accels ≡ []
 
 -- Each state that was met has a row behind dead and quit, and no size passes its limit.
-pub record IsWorking (k : Keying) (limits : SizeLimits) (met : Met) (l : Layout) : Type 0 where
+pub record IsWorking (k : Keying) (settled : Settled) (met : Met) (l : Layout) : Type 0 where
   pub bare : IsBare l
   pub count : row_count l ≡ length met.keys + 2
   pub distinct : AllPairs (λ x y. x ≢ y) (states_of k met)
@@ -67,21 +63,21 @@ pub record IsWorking (k : Keying) (limits : SizeLimits) (met : Met) (l : Layout)
   pub size : met.size ≡ determinizer_size (states_of k met)
   pub patterns : met.patterns ≡ label_total (states_of k met)
   pub few_patterns : met.patterns ≤ max_id
-  pub table : 0 < length met.keys → IfSome limits.table (λ limit. bytes_of l ≤ limit)
-  pub construction : 0 < length met.keys → IfSome limits.construction (λ limit. met.size ≤ limit)
+  pub table : 0 < length met.keys → IfSome settled.dfa_size_limit (λ limit. bytes_of l ≤ limit)
+  pub construction : 0 < length met.keys → IfSome settled.determinize_size_limit (λ limit. met.size ≤ limit)
 
 -- what the construction can be refused for, by some states that were met
-abbrev pub IsOver : Keying → SizeLimits → Layout → BuildErrorKind → Type 0
-IsOver k limits l (BuildErrorKind.NFA error) = ⊥
-IsOver k limits l BuildErrorKind.Unsupported = ⊥
-IsOver k limits l BuildErrorKind.TooManyStates = Exceeds k.build (λ states. last_id (length states) (stride l)) max_id
-IsOver k limits l BuildErrorKind.TooManyMatchPatternIDs = Exceeds k.build label_total max_id
-IsOver k limits l (BuildErrorKind.DFAExceededSizeLimit limit) =
-    (limits.table ≡ Some limit)
+abbrev pub IsOver : Keying → Settled → Layout → BuildErrorKind → Type 0
+IsOver k settled l (BuildErrorKind.NFA error) = ⊥
+IsOver k settled l BuildErrorKind.Unsupported = ⊥
+IsOver k settled l BuildErrorKind.TooManyStates = Exceeds k.build (λ states. last_id (length states) (stride l)) max_id
+IsOver k settled l BuildErrorKind.TooManyMatchPatternIDs = Exceeds k.build label_total max_id
+IsOver k settled l (BuildErrorKind.DFAExceededSizeLimit limit) =
+    (settled.dfa_size_limit ≡ Some limit)
     × Exceeds k.build (λ states. table_size (length states) (stride l) (length l.starts)) limit
-IsOver k limits l (BuildErrorKind.DeterminizeExceededSizeLimit limit) =
-    (limits.construction ≡ Some limit) × Exceeds k.build determinizer_size limit
-IsOver k limits l BuildErrorKind.Memory = Unit {0}
+IsOver k settled l (BuildErrorKind.DeterminizeExceededSizeLimit limit) =
+    (settled.determinize_size_limit ≡ Some limit) × Exceeds k.build determinizer_size limit
+IsOver k settled l BuildErrorKind.Memory = Unit {0}
 
 -- ---- rows
 

@@ -11,7 +11,6 @@ ghost use Rattle.rx_determinize.specs.Constructions.{IsStartedOver};
 ghost use Rattle.rx_determinize.specs.Determinized.{IsBegun, IsBegunWith, IsDeterminized, build_in, limits_of};
 
 use crate::construction::Construction;
-use crate::states::SizeLimits;
 use rx_base::{ByteSet, MatchKind, PatternID, StateID};
 use rx_build_error::{BuildError, BuildErrorKind};
 use rx_dense::{OwnedDFA, PatternMapError};
@@ -27,14 +26,14 @@ use std::marker::Model;
 pub struct Config {
     match_kind: MatchKind,
     quit: ByteSet,
-    dfa_size_limit: Option<usize>,
-    determinize_size_limit: Option<usize>,
+    pub(crate) dfa_size_limit: Option<usize>,
+    pub(crate) determinize_size_limit: Option<usize>,
 }
 
 impl Model for Config {
-    ghost use Rattle.rx_determinize.specs.Determinized.{Settings};
+    ghost use Rattle.rx_determinize.specs.Determinized.{Settled};
 
-    ghost Value = { Settings };
+    ghost Value = { Settled };
 
     ghost view = { λ c. record {
       match_kind = c.match_kind;
@@ -151,20 +150,10 @@ impl Config {
     {
         let classes = *dfa.byte_classes();
         let stepper = Stepper::new(alloc, nfa, self.match_kind, &classes)?;
-        let mut construction = Construction::new(alloc, stepper, &classes, self.limits())?;
+        let mut construction = Construction::new(alloc, stepper, &classes, self)?;
         construction.set_starts(nfa, dfa)?;
         construction.explore(dfa)?;
         Ok(construction.states.matches(alloc, dfa)?)
-    }
-
-    /// The size limits.
-    fn limits(&self) -> SizeLimits
-        ensures { result ≡ record { table = self.now.dfa_size_limit; construction = self.now.determinize_size_limit } }
-    {
-        SizeLimits {
-            table: self.dfa_size_limit,
-            construction: self.determinize_size_limit,
-        }
     }
 }
 

@@ -13,8 +13,9 @@ ghost use Rattle.rx_determinize.specs.Constructions.{AreUnits, Continues, IsRefu
 ghost use Rattle.rx_determinize.specs.Filling.{FindsRow, IsEntering, IsStepping, begun_at, next_column, none_stepped};
 ghost use Rattle.rx_determinize.specs.Models.{AreModels, IsExploring, IsKeyAt};
 
+use crate::config::Config;
 use crate::models::Models;
-use crate::states::{SizeLimits, States, row_id};
+use crate::states::{States, row_id};
 use rx_base::{ByteClasses, StateID, Unit};
 use rx_build_error::BuildError;
 use rx_dense::OwnedDFA;
@@ -26,7 +27,7 @@ use std::alloc::{AllocError, Global};
 pub(crate) struct Construction<'n> {
     pub(crate) stepper: Stepper<'n>,
     pub(crate) states: States,
-    pub(crate) limits: SizeLimits,
+    pub(crate) config: &'n Config,
     /// The unit by which each column steps.
     pub(crate) units: Vec<Unit>,
     /// Room for a key.
@@ -58,11 +59,11 @@ impl<'n> Construction<'n> {
         alloc: Global,
         stepper: Stepper<'n>,
         classes: &ByteClasses,
-        limits: SizeLimits,
+        config: &'n Config,
     ) -> Result<Construction<'n>, AllocError>
         ensures stepping { IfOk result (λ c. stepping_of c.stepper ≡ stepping_of stepper.entry) }
         ensures states { IfOk result (λ c. c.states ≡ none_met) }
-        ensures limits { IfOk result (λ c. c.limits ≡ limits) }
+        ensures config { IfOk result (λ c. c.config.now ≡ config.now) }
         ensures units { IfOk result (λ c. AreUnits c.units.items classes.now) }
     {
         let mut units = Vec::with_capacity(alloc, classes.alphabet_len())?;
@@ -72,7 +73,7 @@ impl<'n> Construction<'n> {
         Ok(Construction {
             stepper,
             states: States::new(alloc),
-            limits,
+            config,
             units,
             key: Vec::new(alloc),
         })
@@ -98,7 +99,7 @@ impl<'n> Construction<'n> {
             }
         }
         if self.stepper.next(at.column, &mut self.key)? {
-            self.states.add(&self.stepper, dfa, self.limits, &self.key)
+            self.states.add(&self.stepper, dfa, self.config, &self.key)
         } else {
             Ok(StateID::ZERO)
         }

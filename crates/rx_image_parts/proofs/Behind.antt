@@ -1,6 +1,5 @@
 -- Parts that stand one behind another.
-use Rattle.rx_spec.proofs.Prelude.{common_steps, ◌≡◌, ℕ, List, [], ◌++◌, length, drop, refl, ap, subst, arith}
-use Rattle.rx_spec.proofs.Prelude.{w32}
+use Rattle.rx_spec.proofs.Prelude.{common_steps, ◌≡◌, ℕ, List, [], ◌++◌, length, drop, refl, ap, subst, arith, w32}
 use Rattle.rx_wire.specs.declared.order.Order.{Order}
 use Rattle.rx_wire.specs.Fields.{Stands, field}
 use Rattle.rx_image_parts.specs.Written.{IsPut}
@@ -25,9 +24,8 @@ pub of_word : (order : Order) {n m : ℕ} {old new : List ℕ} {at end : ℕ} �
     → IsPut (field order w32 n) old new at end → IsPut (field order w32 m) old new at end
 of_word order e h = put_same (ap (field order w32) e) h
 
--- ---- words
+-- ---- at the front of a destination
 
--- at the front of a destination
 pub written : {part old new : List ℕ} {end : ℕ} → IsPut part old new 0 end
     → (end ≡ length part) × (new ≡ part ++ drop end old)
 written {part} {old} {new} {end} put =

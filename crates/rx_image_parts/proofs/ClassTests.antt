@@ -1,7 +1,7 @@
 -- The test of classes.
 use Rattle.rx_spec.proofs.Prelude.{◌≡◌, ℕ, ◌≤◌, ◌+◌, ◌==◌, Bool, true, false, List, length, slice_index, arith, sym}
-use Rattle.rx_spec.proofs.Prelude.{is_some, Option, Some, None, ◌↔◌, refl, list_all, range_with_len, and_parts}
-use Rattle.rx_spec.proofs.Prelude.{eq-eqb, eqb-true, and_from}
+use Rattle.rx_spec.proofs.Prelude.{is_some, Option, Some, None, ◌↔◌, refl, list_all, range_with_len, and_parts, eq-eqb}
+use Rattle.rx_spec.proofs.Prelude.{eqb-true, and_from}
 use Rattle.std.proofs.Common.{IsSome}
 use Rattle.rx_base.specs.ByteClasses.{AreClasses}
 use Rattle.rx_image_parts.specs.Classes.{are_classes, follows}

@@ -1,6 +1,6 @@
 -- Tests of each number below one, and of each of a range or a list.
-use Rattle.rx_spec.proofs.Prelude.{◌≡◌, ℕ, zero, suc, ◌+◌, ◌<◌, Bool, true, false, ◌&&◌, List, [], ◌∷◌, ◌++◌, refl}
-use Rattle.rx_spec.proofs.Prelude.{sym, ap, subst, ◌∙◌, arith, rules, inl, inr, list_all, range_with_len, and_parts}
+use Rattle.rx_spec.proofs.Prelude.{◌≡◌, ℕ, zero, suc, ◌+◌, ◌<◌, Bool, true, false, ◌&&◌, List, [], ◌∷◌, ◌++◌, refl, sym}
+use Rattle.rx_spec.proofs.Prelude.{ap, subst, ◌∙◌, arith, rules, inl, inr, list_all, range_with_len, and_parts}
 use Rattle.rx_spec.proofs.Prelude.{cases_lt, and_from, and_right, and-true, length, get_or, common_steps}
 use Rattle.std.proofs.lemmas.List.Folds.{list_all-append}
 use Rattle.rx_image_parts.specs.Below.{each_below}

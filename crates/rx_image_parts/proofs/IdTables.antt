@@ -1,16 +1,16 @@
 -- Tables whose rows have ids, as both forms of images keep them: what the special ids say of rows.
 use Rattle.rx_spec.proofs.Prelude.{common_steps, ◌≡◌, ℕ, ◌+◌, ◌<◌, ◌≤◌, ◌||◌, not, Bool, true, cond, leb, ltb, eqb}
 use Rattle.rx_spec.proofs.Prelude.{List, length, filter, slice_index, refl, ap, ◌∙◌, arith, Option, if◌then◌else◌}
-use Rattle.rx_spec.proofs.Prelude.{both_ways, range_with_len, eq-eqb, le-leb, ne_eqb, and-false, Label, Anchored}
-use Rattle.rx_spec.proofs.Prelude.{Table, is_match, leaving}
+use Rattle.rx_spec.proofs.Prelude.{both_ways, range_with_len, eq-eqb, le-leb, ne_eqb, and-false, Label, Anchored, Table}
+use Rattle.rx_spec.proofs.Prelude.{is_match, leaving}
 use Rattle.rx_spec.specs.declared.Start.{Start}
 use Rattle.lemmas_tables.proofs.Filters.{every_in_range, filter_alike}
 use Rattle.rx_dense.specs.declared.special.Special.{Special}
 use Rattle.rx_dense.specs.Specials.{is_accel_id, is_match_id, is_quit_id, is_start_id}
 use Rattle.rx_dense.specs.Layouts.{context_number, mode_place, start_entries}
 use Rattle.rx_image_parts.specs.SpecialIds.{is_named, are_special}
-use Rattle.rx_image_parts.proofs.SpecialTests.{label_by, lists_by, matches_by, named_few, no_match, plain_by}
-use Rattle.rx_image_parts.proofs.SpecialTests.{quits_by, quits_only_by}
+use Rattle.rx_image_parts.proofs.SpecialTests.{label_by, lists_by, matches_by, named_few, no_match, plain_by, quits_by}
+use Rattle.rx_image_parts.proofs.SpecialTests.{quits_only_by}
 
 -- ---- start entries
 

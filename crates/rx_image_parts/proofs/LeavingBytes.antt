@@ -1,9 +1,8 @@
 -- Needles that are compared byte by byte with the bytes that pass a test.
 use Rattle.rx_spec.proofs.Prelude.{common_steps, ◌≡◌, ◌≢◌, ℕ, zero, suc, ◌+◌, ◌-◌, ◌<◌, ◌≤◌, Bool, true, false, eqb}
 use Rattle.rx_spec.proofs.Prelude.{List, [], ◌∷◌, ◌++◌, length, get_or, take, filter, refl, sym, ap, ◌∙◌, arith, inl}
-use Rattle.rx_spec.proofs.Prelude.{inr, add-one, if◌then◌else◌, range_with_len, bytes_eq, take-length, cases_lt}
-use Rattle.rx_spec.proofs.Prelude.{eq-eqb, ne_eqb, length-take-le, take_more, append-nil, filter-append}
-use Rattle.rx_spec.proofs.Prelude.{bytes_eq-Decides}
+use Rattle.rx_spec.proofs.Prelude.{inr, add-one, if◌then◌else◌, range_with_len, bytes_eq, take-length, cases_lt, eq-eqb}
+use Rattle.rx_spec.proofs.Prelude.{ne_eqb, length-take-le, take_more, append-nil, filter-append, bytes_eq-Decides}
 use Rattle.rx_image_parts.proofs.EachBelow.{range_more}
 
 -- the first needles are the bytes below one that pass

@@ -1,6 +1,6 @@
 -- What was written is read again: special ids and quit bytes.
-use Rattle.rx_spec.proofs.Prelude.{common_steps, ◌≡◌, ℕ, ◌^◌, ◌<◌, ◌≤◌, List, [], ◌++◌, true, Ok, refl, sym, ap}
-use Rattle.rx_spec.proofs.Prelude.{subst, ◌∙◌, arith, w32, lt-ltb, append-nil, max_id}
+use Rattle.rx_spec.proofs.Prelude.{common_steps, ◌≡◌, ℕ, ◌^◌, ◌<◌, ◌≤◌, List, [], ◌++◌, true, Ok, refl, sym, ap, subst}
+use Rattle.rx_spec.proofs.Prelude.{◌∙◌, arith, w32, lt-ltb, append-nil, max_id}
 use Rattle.rx_wire.specs.declared.order.Order.{Order}
 use Rattle.rx_wire.specs.Kinds.{Reads}
 use Rattle.rx_wire.specs.Fields.{bytes_at, field}

@@ -1,10 +1,9 @@
 -- What the tests of special ids say: of the label of a row, and of the rows in a range.
-use Rattle.rx_spec.proofs.Prelude.{common_steps, ◌≡◌, ℕ, ◌<◌, ◌≤◌, ◌&&◌, ◌||◌, Bool, true, false, cond, leb, List}
-use Rattle.rx_spec.proofs.Prelude.{refl, arith, and_parts, leb-true, false_from_ne_true, Label, is_match_label}
+use Rattle.rx_spec.proofs.Prelude.{common_steps, ◌≡◌, ℕ, ◌<◌, ◌≤◌, ◌&&◌, ◌||◌, Bool, true, false, cond, leb, List, refl}
+use Rattle.rx_spec.proofs.Prelude.{arith, and_parts, leb-true, false_from_ne_true, Label, is_match_label}
 use Rattle.rx_dense.specs.Specials.{greatest, is_in_range, is_match_id}
 use Rattle.rx_dense.specs.declared.special.Special.{Special}
-use Rattle.rx_image_parts.specs.SpecialIds.{is_named, are_past_quit, are_ranges, are_special, begin_in_order}
-use Rattle.rx_image_parts.specs.SpecialIds.{is_range}
+use Rattle.rx_image_parts.specs.SpecialIds.{is_named, are_past_quit, are_ranges, are_special, begin_in_order, is_range}
 
 -- ---- labels by the two tests
 

@@ -1,7 +1,7 @@
 -- The words of some bytes.
 use Rattle.rx_spec.proofs.Prelude.{◌≡◌, ℕ, ◌+◌, ◌<◌, ◌≤◌, List, [], ◌∷◌, length, get_or, take, drop, arith}
-use Rattle.rx_spec.proofs.Prelude.{common_steps, ◌*◌, ◌^◌, get_or-map-range_with_len, length-map-range_with_len}
-use Rattle.rx_spec.proofs.Prelude.{w32, get_or-drop}
+use Rattle.rx_spec.proofs.Prelude.{common_steps, ◌*◌, ◌^◌, get_or-map-range_with_len, length-map-range_with_len, w32}
+use Rattle.rx_spec.proofs.Prelude.{get_or-drop}
 use Rattle.rx_wire.specs.declared.order.Order.{Order}
 use Rattle.rx_image_parts.specs.Words.{AreWords, words_of, word_at}
 use Rattle.rx_wire.specs.Fields.{number}

@@ -8,7 +8,7 @@ use rx_dense::Flags;
 use rx_wire::{DeserializeError, Order, split_label, split_order};
 
 /// The version that is read and written.
-pub const VERSION: u32 = 2;
+pub(crate) const VERSION: u32 = 2;
 
 /// The flags of a word. Bits without a meaning are ignored.
 fn flags_of(word: u32) -> Flags

@@ -2,16 +2,18 @@
 //!
 //! Each `put` function writes a part at an index and returns the index after it.
 
-ghost use Rattle.std.specs.Prelude.{◌≡◌, ◌+◌, ◌^◌, ◌<◌, ◌≤◌, length};
+ghost use Rattle.std.specs.Prelude.{◌≡◌, ℕ, ◌+◌, ◌^◌, ◌<◌, ◌≤◌, List, length};
 ghost use Rattle.std.specs.Int.{w32, w128};
 ghost use Rattle.rx_wire.specs.Fields.{field};
+ghost use Rattle.rx_wire.specs.Heads.{label_text};
 ghost use Rattle.rx_dense.specs.Layouts.{context_number};
-ghost use Rattle.rx_image_parts.specs.Heads.{flag, flags_word};
+ghost use Rattle.rx_image_parts.specs.Heads.{flag, flags_word, head_text};
 ghost use Rattle.rx_image_parts.specs.StartTables.{kind_number, number_or_none};
 ghost use Rattle.rx_image_parts.specs.QuitBytes.{quit_text};
 ghost use Rattle.rx_image_parts.specs.SpecialIds.{special_text};
 ghost use Rattle.rx_image_parts.specs.Written.{IsPut};
 
+use crate::head::VERSION;
 use crate::start_table::NONE;
 use rx_base::{ByteSet, Start, StartKind, StateID};
 use rx_dense::{Flags, Special};
@@ -60,10 +62,26 @@ fn flag(set: bool, worth: u32) -> u32
 }
 
 /// Flags as a word.
-pub fn flags_word(flags: &Flags) -> u32
+fn flags_word(flags: &Flags) -> u32
     ensures { result ≡ flags_word flags.now }
 {
     flag(flags.has_empty, 1) + flag(flags.is_utf8, 2) + flag(flags.is_always_start_anchored, 4)
+}
+
+/// Writes the head of an image. `label` is the label with its NUL and its padding.
+pub fn put_head<E: Endian>(label: &[u8], flags: &Flags, dst: &mut [u8], at: usize) -> usize
+    requires label { length label.now ≡ 32 }
+    requires fits { at + 48 ≤ length dst.old }
+    ensures len { length dst.new ≡ length dst.old }
+    ensures place { result ≡ at + 48 }
+    ensures put { (name : List ℕ) → label.now ≡ label_text name
+        → IsPut (head_text E.order name flags.now) dst.old dst.new at result }
+{
+    let label = put_plain(label, dst, at);
+    let order = put_word::<E>(ENDIANNESS, dst, label);
+    let version = put_word::<E>(VERSION, dst, order);
+    let unused = put_word::<E>(0, dst, version);
+    put_word::<E>(flags_word(flags), dst, unused)
 }
 
 /// The number of a start kind.

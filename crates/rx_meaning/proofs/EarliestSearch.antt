@@ -16,7 +16,7 @@ use Rattle.lemmas_walks.proofs.Walking.{Dead, Quits, Steps, leads, state_walk, w
 use Rattle.lemmas_walks.proofs.Walking.{walk_steps}
 use Rattle.rx_meaning.specs.Mirrored.{start_if, start_to_end, least_start}
 use Rattle.rx_meaning.proofs.FirstSuccess.{first_of-alike, first_of-map}
-use Rattle.rx_meaning.proofs.Scan.{Scan, read_in, StandsAt, step_at, step_stands, Asked, scan_of}
+use Rattle.rx_meaning.proofs.Scan.{Scan, read_in, StandsAt, step_at, step_stands, PlanQuery, scan_of}
 use Rattle.rx_meaning.proofs.NfaStarts.{one_worth, all_worth, mode_worth, start_gives}
 use Rattle.rx_meaning.proofs.Steps.{cuts_nothing}
 use Rattle.rx_meaning.proofs.StartStates.{begin_state, begun_walk, begin_stands, begin_gives}
@@ -75,19 +75,19 @@ module _ (c : Scan) where
 -- ---- the start
 
 -- pattern k matches from p to the end
-record Reached (a : Asked) (end p k : ℕ) : Type 0 where
+record Reached (a : PlanQuery) (end p k : ℕ) : Type 0 where
   expression : Expression
   numbered : slice_get a.expressions k ≡ Some expression
   matches : Contains (ends (reading Direction.Forward a.plan.line_terminator a.query.haystack) expression p) end
 
-reached_order : (a : Asked) (end p k : ℕ) → p ≤ length a.query.haystack → Reached a end p k → p ≤ end
+reached_order : (a : PlanQuery) (end p k : ℕ) → p ≤ length a.query.haystack → Reached a end p k → p ≤ end
 reached_order a end p k within x =
     let r = reading Direction.Forward a.plan.line_terminator a.query.haystack in
     let safe = All-got IsLoopSafe a.expressions k x.expression a.safe x.numbered in
     let lies = reaches_lie r x.expression p end within (reaches_sound r x.expression p end safe x.matches) in
     omega arith
 
-module _ (a : Asked) (end : ℕ) where
+module _ (a : PlanQuery) (end : ℕ) where
   abbrev forward_ends : ℕ → Expression → List ℕ
   forward_ends p e = ends (reading Direction.Forward a.plan.line_terminator a.query.haystack) e p
 
@@ -201,8 +201,8 @@ module _ (a : Asked) (end : ℕ) where
     begins_in (Anchored.Pattern c) is e = at_start (one_reached a.query.start c k e) (λ m f. absurd (cc))
 
 -- Where the match begins whose end was met first.
-pub earliest_begins : (a : Asked) (end : HalfMatch) → a.query.earliest ≡ true → half a Direction.Forward ≡ Ok (Some end)
-    → Begins a end.pattern end.offset
+pub earliest_begins : (a : PlanQuery) (end : HalfMatch) → a.query.earliest ≡ true
+    → half a Direction.Forward ≡ Ok (Some end) → Begins a end.pattern end.offset
 earliest_begins a end first e =
     let b = plan_build a.plan Direction.Forward a.expressions in
     let q = a.query in

@@ -13,7 +13,7 @@ use Rattle.rx_meaning.proofs.FirstSuccess.{first_of-nil, first_of-cons, first_of
 use Rattle.rx_meaning.proofs.FirstSuccess.{range_longer}
 use Rattle.rx_meaning.proofs.Solution.{Valued, given, given_none}
 use Rattle.rx_meaning.proofs.Closures.{first_given}
-use Rattle.rx_meaning.proofs.Scan.{Scan, valued, Asked, asked, scan_of}
+use Rattle.rx_meaning.proofs.Scan.{Scan, valued, PlanQuery, plan_query, scan_of}
 use Rattle.rx_meaning.proofs.NfaStarts.{all_worth, mode_worth, start_gives, edge_alone}
 use Rattle.rx_meaning.proofs.Steps.{label_worth, step_gives}
 use Rattle.rx_meaning.proofs.LastWalks.{label_tells, Foretold}
@@ -31,7 +31,7 @@ label_told : (end i : ℕ) (label : List ℕ) → i ≤ end → label_worth (wit
 label_told end i [] h = first_of-nil (λ (k : ℕ). within_end end k i)
 label_told end i (k ∷ ks) h = grind (arith, common_steps, first_of-cons)
 
-module _ (a : Asked) where
+module _ (a : PlanQuery) where
   abbrev c : Scan
   c = scan_of a Direction.Forward
 
@@ -120,4 +120,4 @@ module _ (a : Asked) where
 
 pub preference_holds : Preference
 preference_holds p es q safe bytes inside told e =
-    forward_tells (asked p es (record q { earliest = false }) safe bytes inside) told refl e
+    forward_tells (plan_query p es (record q { earliest = false }) safe bytes inside) told refl e

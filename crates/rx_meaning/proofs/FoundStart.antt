@@ -11,7 +11,7 @@ use Rattle.lemmas_walks.proofs.Ranges.{range_none, range_first_at}
 use Rattle.lemmas_walks.proofs.Reaches.{reaches_sound, reaches_lie}
 use Rattle.rx_meaning.specs.Mirrored.{start_to_end, least_start}
 use Rattle.lemmas_walks.proofs.ReadUnits.{All-got}
-use Rattle.rx_meaning.proofs.Scan.{Asked}
+use Rattle.rx_meaning.proofs.Scan.{PlanQuery}
 use Rattle.rx_meaning.proofs.NfaStarts.{edge_alone}
 use Rattle.rx_meaning.proofs.OneEnd.{any_end, end_any}
 use Rattle.rx_meaning.proofs.EndStarts.{always, Begins}
@@ -25,7 +25,7 @@ admitted_anywhere : (q : Query) (n p k : ℕ) → q.mode ≡ Anchored.No → q.s
     → admitted q n p k ≡ true
 admitted_anywhere q n p k m a b c = grind (arith, common_steps)
 
-module _ (a : Asked) (m : Match) (is : IsFound a.expressions a.plan.line_terminator a.query m) where
+module _ (a : PlanQuery) (m : Match) (is : IsFound a.expressions a.plan.line_terminator a.query m) where
   abbrev e : Expression
   e = is.matches.expression
 

@@ -9,7 +9,7 @@ use Rattle.lemmas_walks.proofs.WalkBounds.{half_is_no_mismatch}
 use Rattle.lemmas_walks.proofs.FoundLaws.{is_found}
 use Rattle.rx_meaning.specs.Preference.{build_half_search, end_of}
 use Rattle.rx_meaning.specs.Joined.{plan_search, JoinedSearch, IsMatch, JoinedEnd, NeverMismatched}
-use Rattle.rx_meaning.proofs.Scan.{Asked, asked}
+use Rattle.rx_meaning.proofs.Scan.{PlanQuery, plan_query}
 use Rattle.rx_meaning.proofs.ForwardSearch.{preference_holds}
 use Rattle.rx_meaning.proofs.EndStarts.{always, half, Begins, answered}
 use Rattle.rx_meaning.proofs.EarliestSearch.{earliest_begins}
@@ -25,7 +25,7 @@ mapped_none : (o : Option Match) → None ≡ option_map end_of o → o ≡ None
 mapped_none None e = refl
 mapped_none (Some m) e = absurd (none-some (end_of m) e)
 
-module _ (a : Asked) where
+module _ (a : PlanQuery) where
   abbrev finds : Option Match
   finds = found a.expressions a.plan.line_terminator a.query
 
@@ -70,10 +70,10 @@ module _ (a : Asked) where
 
 pub joined_search_holds : JoinedSearch
 joined_search_holds p es q safe bytes inside =
-    search_joined (asked p es (record q { earliest = false }) safe bytes inside) refl
+    search_joined (plan_query p es (record q { earliest = false }) safe bytes inside) refl
 
 pub joined_end_holds : JoinedEnd
-joined_end_holds p es q end safe bytes inside e = end_joined (asked p es q safe bytes inside) end e
+joined_end_holds p es q end safe bytes inside e = end_joined (plan_query p es q safe bytes inside) end e
 
 -- and so the two never disagree
 pub never_mismatched_holds : NeverMismatched

@@ -17,7 +17,7 @@ use Rattle.rx_meaning.proofs.Solution.{Valued, given}
 use Rattle.rx_meaning.proofs.StartRows.{pattern_worth, entries_count, entry_gives, start_of_all_gives, lead_in_gives}
 use Rattle.rx_meaning.proofs.Edge.{edge_ends}
 use Rattle.rx_meaning.proofs.OneStart.{one_start}
-use Rattle.rx_meaning.proofs.Scan.{valued, Asked, scan_of}
+use Rattle.rx_meaning.proofs.Scan.{valued, PlanQuery, scan_of}
 
 -- the three parts stand in an NFA's rows
 module _ (direction : Direction) (es : List Expression) where
@@ -44,7 +44,7 @@ safe_to_read : (direction : Direction) (e : Expression) → IsLoopSafe e → IsL
 safe_to_read Direction.Forward e safe = safe
 safe_to_read Direction.Reverse e safe = IsLoopSafe-mirror e safe
 
-module _ {V : Type 0} (a : Asked) (direction : Direction) (worth : ℕ → ℕ → Option V) where
+module _ {V : Type 0} (a : PlanQuery) (direction : Direction) (worth : ℕ → ℕ → Option V) where
   abbrev x : Valued V
   x = valued (scan_of a direction) worth
 
@@ -142,7 +142,7 @@ passes_at p [] k e h g = absurd (none-some e g)
 passes_at p (x ∷ es) zero e h g = subst (λ y. p y ≡ true) (same_Some x e g) (and_parts (p x) (list_all p es) h).0
 passes_at p (x ∷ es) (suc k) e h g = passes_at p es k e (and_parts (p x) (list_all p es) h).1 g
 
-pub edge_alone : (a : Asked) → is_always_start_anchored (plan_nfa a.plan Direction.Forward a.expressions) ≡ true
+pub edge_alone : (a : PlanQuery) → is_always_start_anchored (plan_nfa a.plan Direction.Forward a.expressions) ≡ true
     → (k p : ℕ) (e : Expression) → slice_get a.expressions k ≡ Some e → 0 < p → p ≤ length a.query.haystack
     → ends (reading Direction.Forward a.plan.line_terminator a.query.haystack) e p ≡ []
 edge_alone a always k p e got above within =

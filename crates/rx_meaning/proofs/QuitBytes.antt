@@ -14,7 +14,7 @@ use Rattle.lemmas_walks.proofs.ReadUnits.{first_place, first_offset_is, next_at_
 use Rattle.lemmas_walks.proofs.Walking.{goes_on, Dead, Quits, Steps, leads, state_walk, walk-nil, walk_dead, walk_quits}
 use Rattle.lemmas_walks.proofs.Walking.{walk_steps}
 use Rattle.rx_meaning.specs.Preference.{build_half_search}
-use Rattle.rx_meaning.proofs.Scan.{read_in, Asked, scan_of}
+use Rattle.rx_meaning.proofs.Scan.{read_in, PlanQuery, scan_of}
 use Rattle.rx_meaning.proofs.StartStates.{begin_state, begun_walk, query_state, started_search}
 
 -- what a unit has told, or what was told before
@@ -125,7 +125,7 @@ pub record Ended (quit : ℕ) (q : Query) (end : ℕ) : Type 0 where
   pub before_clean : contains quit (unit_of (before q.haystack q.start)) ≡ false
   pub clean : (k : ℕ) → q.start ≤ k → k ≤ end → contains quit (unit_of (after q.haystack k)) ≡ false
 
-module _ (a : Asked) where
+module _ (a : PlanQuery) where
   abbrev forward : Build
   forward = plan_build a.plan Direction.Forward a.expressions
 
@@ -177,7 +177,7 @@ clean_search b direction q order inside start last clean =
     )
 
 -- So a search in reverse from there tells, and doesn't quit.
-pub reverse_told : (a : Asked) (end : HalfMatch)
+pub reverse_told : (a : PlanQuery) (end : HalfMatch)
     → build_half_search (plan_build a.plan Direction.Forward a.expressions) Direction.Forward a.query ≡ Ok (Some end)
     → (h : Option HalfMatch)
     × (build_half_search (plan_build a.plan Direction.Reverse a.expressions) Direction.Reverse

@@ -12,7 +12,7 @@ use Rattle.lemmas_walks.proofs.ReadUnits.{All-got, unit_at}
 use Rattle.rx_meaning.specs.Preference.{build_half_search}
 use Rattle.rx_meaning.specs.Mirrored.{MirroredSearch, StartOfEnd, start_if, start_to_end, least_start}
 use Rattle.rx_meaning.proofs.FirstSuccess.{first_of-nil, first_of-alike, first_of-map}
-use Rattle.rx_meaning.proofs.Scan.{Scan, read_in, StandsAt, step_at, Asked, asked, scan_of}
+use Rattle.rx_meaning.proofs.Scan.{Scan, read_in, StandsAt, step_at, PlanQuery, plan_query, scan_of}
 use Rattle.rx_meaning.proofs.NfaStarts.{one_worth, mode_worth, start_gives}
 use Rattle.rx_meaning.proofs.Steps.{CutsNothing}
 use Rattle.rx_meaning.proofs.LastWalks.{label_tells, Foretold}
@@ -92,7 +92,7 @@ pattern_mirrored t hay end p k e safe within =
     (λ h. end_any (length hay - p) back (both.0 (any_end end forward h))) in
     grind (arith, common_steps, ends_exactly)
 
-module _ (a : Asked) where
+module _ (a : PlanQuery) where
   abbrev size : ℕ
   size = length a.query.haystack
 
@@ -162,11 +162,11 @@ module _ (a : Asked) where
 
 pub mirrored_search_holds : MirroredSearch
 mirrored_search_holds p es q told safe bytes order inside e =
-    reverse_tells (asked p es (back_from q q.end) safe bytes inside) told order refl refl e
+    reverse_tells (plan_query p es (back_from q q.end) safe bytes inside) told order refl refl e
 
 pub start_of_end_holds : StartOfEnd
 start_of_end_holds p es q end safe bytes inside e =
-    let a = asked p es q safe bytes inside in
+    let a = plan_query p es q safe bytes inside in
     let told = reverse_told a end e in
     let ended = forward_ended a end e in
     let back = record q { end = end.offset } in

@@ -54,7 +54,7 @@ step_stands c s i =
     grind (arith, common_steps, unit_facts_of)
 
 -- Expressions that are safe to repeat, built by a plan, and a query of bytes.
-pub record Asked : Type 0 where
+pub record PlanQuery : Type 0 where
   pub plan : Plan
   pub expressions : List Expression
   pub safe : All IsLoopSafe expressions
@@ -62,13 +62,13 @@ pub record Asked : Type 0 where
   pub bytes : AreBytes query.haystack
   pub inside : query.end ≤ length query.haystack
 
-abbrev pub asked : (p : Plan) (es : List Expression) (q : Query) → All IsLoopSafe es → AreBytes q.haystack
-    → q.end ≤ length q.haystack → Asked
-asked p es q safe bytes inside =
+abbrev pub plan_query : (p : Plan) (es : List Expression) (q : Query) → All IsLoopSafe es → AreBytes q.haystack
+    → q.end ≤ length q.haystack → PlanQuery
+plan_query p es q safe bytes inside =
     record { plan = p; expressions = es; safe = safe; query = q; bytes = bytes; inside = inside }
 
 -- the build of one direction reads the haystack
-abbrev pub scan_of : Asked → Direction → Scan
+abbrev pub scan_of : PlanQuery → Direction → Scan
 scan_of a direction = record {
   build = plan_build a.plan direction a.expressions;
   shallow = nfa_shallow direction a.plan.line_terminator false a.expressions a.safe;

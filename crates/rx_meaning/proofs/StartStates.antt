@@ -16,7 +16,7 @@ use Rattle.rx_meaning.specs.Preference.{build_half_search}
 use Rattle.rx_meaning.proofs.FirstSuccess.{first_of-nil, first_of-single}
 use Rattle.rx_meaning.proofs.Solution.{given}
 use Rattle.rx_meaning.proofs.Closures.{first_given}
-use Rattle.rx_meaning.proofs.Scan.{read_in, valued, StandsAt, Asked, scan_of}
+use Rattle.rx_meaning.proofs.Scan.{read_in, valued, StandsAt, PlanQuery, scan_of}
 use Rattle.rx_meaning.proofs.StateAssertions.{state_gives}
 use Rattle.rx_meaning.proofs.LastWalks.{Foretold, walk_tells}
 use Rattle.lemmas_walks.proofs.Ranges.{or_none}
@@ -46,7 +46,7 @@ pub started_search : (b : Build) (direction : Direction) (t : â„•) (q : Query) â
     (units_from (reading direction t q.haystack) (first_place direction q) (suc (q.end - q.start)))
 started_search b direction t q order inside start = grind (arith, common_steps, started_walk)
 
-module _ (a : Asked) (direction : Direction) where
+module _ (a : PlanQuery) (direction : Direction) where
   abbrev nfa : Nfa
   nfa = (scan_of a direction).build.nfa
 

@@ -6,8 +6,6 @@ pub mod ExchangedRows
 pub mod Renamed
 -- the ids of the places, listed by rows
 pub mod NewIds
--- what is exchanged or renamed stays rows
-pub mod KeptRows
 -- the rows of a dense table as lists, exchanged and renamed
 pub mod RowLists
 -- rows while they are moved, one exchange after another

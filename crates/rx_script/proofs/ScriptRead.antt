@@ -5,7 +5,7 @@ use Rattle.rx_spec.proofs.Prelude.{and_from, Expression, Query}
 use Rattle.rx_base.specs.Search.{mode_of}
 use Rattle.rx_script.specs.declared.names.LineKind.{LineKind}
 use Rattle.rx_script.specs.declared.plan_words.Choices.{Choices}
-use Rattle.rx_script.specs.declared.script.Asked.{Asked}
+use Rattle.rx_script.specs.declared.script.InputLine.{InputLine}
 use Rattle.rx_script.specs.Names.{line_name}
 use Rattle.rx_script.specs.Tokens.{number_of, mode_word}
 use Rattle.rx_script.specs.Grammar.{IsLine, line_text, SpellsExpression, Headed, SpellsPlan, SpellsPlanLines}
@@ -32,24 +32,24 @@ headed_read n kind words others w e =
 -- ---- what is asked
 
 -- the span and the mode of a query, as the reader has them
-record IsSpanOf (asked : Asked) (q : Query) : Type 0 where
+record IsSpanOf (asked : InputLine) (q : Query) : Type 0 where
   start : asked.start ≡ q.start
   end : asked.end ≡ q.end
   mode : mode_of asked.mode ≡ q.mode
 
-same_query : {asked : Asked} {q : Query} → IsSpanOf asked q → q.earliest ≡ false → query_of asked q.haystack ≡ q
+same_query : {asked : InputLine} {q : Query} → IsSpanOf asked q → q.earliest ≡ false → query_of asked q.haystack ≡ q
 same_query {asked = asked} {q = q} s whole = grind (arith, common_steps)
 
-span_fits : {asked : Asked} {q : Query} → IsSpanOf asked q → q.end ≤ length q.haystack → q.start ≤ q.end + 1
+span_fits : {asked : InputLine} {q : Query} → IsSpanOf asked q → q.end ≤ length q.haystack → q.start ≤ q.end + 1
     → fits asked q.haystack ≡ true
 span_fits {asked = asked} {q = q} s within ordered =
     rw (s.start, s.end) (and_from _ _ (le-leb q.end (length q.haystack) within) (le-leb q.start (q.end + 1) ordered))
 
-numbers_read : (asked : Asked) (a b m : List ℕ) → number_of a ≡ Some asked.start → number_of b ≡ Some asked.end
+numbers_read : (asked : InputLine) (a b m : List ℕ) → number_of a ≡ Some asked.start → number_of b ≡ Some asked.end
     → mode_word m ≡ Some asked.mode → input_words (a ∷ (b ∷ (m ∷ []))) ≡ Some asked
 numbers_read asked a b m p q r = rw (p, q, r) refl
 
-asked_again : {q : Query} {input hay : List (List ℕ)} (n : ℕ) (asked : Asked) → SpellsQuery q input hay
+asked_again : {q : Query} {input hay : List (List ℕ)} (n : ℕ) (asked : InputLine) → SpellsQuery q input hay
     → fits asked q.haystack ≡ true → IsLine hay → hay_at n asked (line_text hay ∷ []) ≡ Ok (query_of asked q.haystack)
 unfolding hay_at asked_at
 asked_again {q = q} {hay = hay} n asked s fit line =
@@ -62,7 +62,7 @@ query_read : {q : Query} {input hay : List (List ℕ)} (n : ℕ) → IsLine inpu
 unfolding lines_at next_at input_at
 query_read {q = q} {input = input} {hay = hay} n input_line hay_line s =
     let m = mode_read s.mode q.mode s.mode_spelled in
-    let asked : Asked = record { start = q.start; end = q.end; mode = m.0 } in
+    let asked : InputLine = record { start = q.start; end = q.end; mode = m.0 } in
     let span : IsSpanOf asked q = record { start = refl; end = refl; mode = m.2 } in
     let start = number_read s.start q.start s.start_spelled in
     let end = number_read s.end q.end s.end_spelled in

@@ -8,7 +8,7 @@ use Rattle.rx_base.specs.declared.search.Anchored.{Anchored as Mode}
 use Rattle.rx_script.specs.declared.fault.BadKind.{BadKind}
 use Rattle.rx_script.specs.declared.names.LineKind.{LineKind}
 use Rattle.rx_script.specs.declared.plan_words.Choices.{Choices}
-use Rattle.rx_script.specs.declared.script.Asked.{Asked}
+use Rattle.rx_script.specs.declared.script.InputLine.{InputLine}
 use Rattle.rx_script.specs.Pieces.{lines_of, words_of, is_spaced}
 use Rattle.rx_script.specs.Names.{line_name, line_kind}
 use Rattle.rx_script.specs.Tokens.{number_of, mode_word}
@@ -66,7 +66,7 @@ nothing_spelled n [] e = refl
 nothing_spelled n (line ∷ lines) e = grind (arith, common_steps)
 
 -- three words that spell a span and a mode
-record SpellsSpan (asked : Asked) (words : List (List ℕ)) : Type 0 where
+record SpellsSpan (asked : InputLine) (words : List (List ℕ)) : Type 0 where
   start : List ℕ
   end : List ℕ
   mode : List ℕ
@@ -75,7 +75,7 @@ record SpellsSpan (asked : Asked) (words : List (List ℕ)) : Type 0 where
   end_spelled : SpellsNumber asked.end end
   mode_spelled : SpellsMode (mode_of asked.mode) mode
 
-span_spelled : (words : List (List ℕ)) (asked : Asked) → input_words words ≡ Some asked → SpellsSpan asked words
+span_spelled : (words : List (List ℕ)) (asked : InputLine) → input_words words ≡ Some asked → SpellsSpan asked words
 span_spelled (a ∷ (b ∷ (m ∷ []))) asked e = on (number_of a) (number_of b) (mode_word m) refl refl refl e where
   on : (x y : Option ℕ) (z : Option Mode) → number_of a ≡ x → number_of b ≡ y → mode_word m ≡ z
       → asked_of x y z ≡ Some asked → SpellsSpan asked (a ∷ (b ∷ (m ∷ [])))
@@ -83,7 +83,7 @@ span_spelled (a ∷ (b ∷ (m ∷ []))) asked e = on (number_of a) (number_of b)
   on (Some x) None z p q r s = absurd cc
   on (Some x) (Some y) None p q r s = absurd cc
   on (Some x) (Some y) (Some z) p q r s =
-      subst (λ (t : Asked). SpellsSpan t (a ∷ (b ∷ (m ∷ []))))
+      subst (λ (t : InputLine). SpellsSpan t (a ∷ (b ∷ (m ∷ []))))
       (same_Some (record { start = x; end = y; mode = z }) asked s)
       (record {
         start = a;
@@ -110,7 +110,7 @@ record IsAsked (words : List (List ℕ)) (lines : List (List ℕ)) (q : Query) :
   spelled : SpellsQuery q (line_name LineKind.Input ∷ words) hay
 
 asked_spelled
-    : {asked : Asked} {inputs others : List (List ℕ)} {line : List ℕ} (n : ℕ) (lines : List (List ℕ)) (q : Query)
+    : {asked : InputLine} {inputs others : List (List ℕ)} {line : List ℕ} (n : ℕ) (lines : List (List ℕ)) (q : Query)
     → SpellsSpan asked inputs → IsTested line (Some LineKind.Hay) others → asked_at n asked others lines ≡ Ok q
     → IsAsked inputs (line ∷ lines) q
 unfolding asked_at
@@ -136,13 +136,13 @@ asked_spelled {asked = asked} {inputs = inputs} {others = others} {line = line} 
           (ok_is (query_of asked hay) q r.2) made;
     }
 
-hay_kind_spelled : {asked : Asked} {inputs others : List (List ℕ)} {line : List ℕ} (n : ℕ) (kind : Option LineKind)
+hay_kind_spelled : {asked : InputLine} {inputs others : List (List ℕ)} {line : List ℕ} (n : ℕ) (kind : Option LineKind)
     → (lines : List (List ℕ)) (q : Query) → SpellsSpan asked inputs → IsTested line kind others
     → hay_kind n asked kind others lines ≡ Ok q → IsAsked inputs (line ∷ lines) q
 hay_kind_spelled n (Some LineKind.Hay) lines q span t h = asked_spelled n lines q span t h
 hay_kind_spelled n _ lines q span t h = absurd cc
 
-hay_at_spelled : {asked : Asked} {inputs : List (List ℕ)} (n : ℕ) (lines : List (List ℕ)) (q : Query)
+hay_at_spelled : {asked : InputLine} {inputs : List (List ℕ)} (n : ℕ) (lines : List (List ℕ)) (q : Query)
     → SpellsSpan asked inputs → hay_at n asked lines ≡ Ok q → IsAsked inputs lines q
 unfolding hay_at
 hay_at_spelled n [] q span h = absurd cc

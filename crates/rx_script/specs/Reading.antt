@@ -9,7 +9,7 @@ use Rattle.rx_base.specs.declared.search.Anchored.{Anchored as Mode}
 use Rattle.rx_script.specs.declared.fault.BadKind.{BadKind}
 use Rattle.rx_script.specs.declared.names.LineKind.{LineKind}
 use Rattle.rx_script.specs.declared.plan_words.Choices.{Choices}
-use Rattle.rx_script.specs.declared.script.Asked.{Asked}
+use Rattle.rx_script.specs.declared.script.InputLine.{InputLine}
 use Rattle.rx_script.specs.Faults.{Fault, refused, needed, ◌>>=◌}
 use Rattle.rx_script.specs.Pieces.{lines_of, words_of, is_spaced}
 use Rattle.rx_script.specs.Names.{line_kind}
@@ -36,13 +36,13 @@ line_at n line =
 -- ---- the input and the haystack
 
 -- a span and a mode
-abbrev pub asked_of : Option ℕ → Option ℕ → Option Mode → Option Asked
+abbrev pub asked_of : Option ℕ → Option ℕ → Option Mode → Option InputLine
 asked_of None end mode = None
 asked_of (Some a) None mode = None
 asked_of (Some a) (Some b) None = None
 asked_of (Some a) (Some b) (Some m) = Some (record { start = a; end = b; mode = m })
 
-abbrev pub input_words : List (List ℕ) → Option Asked
+abbrev pub input_words : List (List ℕ) → Option InputLine
 input_words (start ∷ (end ∷ (mode ∷ []))) = asked_of (number_of start) (number_of end) (mode_word mode)
 input_words _ = None
 
@@ -56,24 +56,24 @@ nothing_at n [] = Ok tt
 nothing_at n (line ∷ lines) = line_at n line >>= λ read. refused n BadKind.Order
 
 -- the span fits the haystack
-abbrev pub fits : Asked → List ℕ → Bool
+abbrev pub fits : InputLine → List ℕ → Bool
 fits asked hay = nat_le asked.end (length hay) && nat_le asked.start (asked.end + 1)
 
-abbrev pub query_of : Asked → List ℕ → Query
+abbrev pub query_of : InputLine → List ℕ → Query
 query_of asked hay =
     record { haystack = hay; start = asked.start; end = asked.end; mode = mode_of asked.mode; earliest = false }
 
-unfoldable pub asked_at : ℕ → Asked → List (List ℕ) → List (List ℕ) → Result Query Fault
+unfoldable pub asked_at : ℕ → InputLine → List (List ℕ) → List (List ℕ) → Result Query Fault
 asked_at n asked words lines =
     needed n BadKind.Hay (hay_words words)
     >>= λ hay. (if fits asked hay then (nothing_at (n + 1) lines >>= λ nothing. Ok (query_of asked hay))
     else refused n BadKind.Span)
 
-abbrev pub hay_kind : ℕ → Asked → Option LineKind → List (List ℕ) → List (List ℕ) → Result Query Fault
+abbrev pub hay_kind : ℕ → InputLine → Option LineKind → List (List ℕ) → List (List ℕ) → Result Query Fault
 hay_kind n asked (Some LineKind.Hay) words lines = asked_at n asked words lines
 hay_kind n asked _ words lines = refused n BadKind.Order
 
-unfoldable pub hay_at : ℕ → Asked → List (List ℕ) → Result Query Fault
+unfoldable pub hay_at : ℕ → InputLine → List (List ℕ) → Result Query Fault
 hay_at n asked [] = refused n BadKind.Order
 hay_at n asked (line ∷ lines) = line_at n line >>= λ read. hay_kind n asked read.0 read.1 lines
 

@@ -118,14 +118,14 @@ fn words(number: u64, line: &[u8]) -> Result<(Option<LineKind>, Option<&[u8]>), 
 
 /// A span and a mode.
 #[derive(Clone, Copy)]
-struct Asked {
+struct InputLine {
     start: usize,
     end: usize,
     mode: Anchored,
 }
 
 /// The span and the mode that the words after `input` spell.
-fn input_words(words: Option<&[u8]>) -> Option<Asked>
+fn input_words(words: Option<&[u8]>) -> Option<InputLine>
     ensures { result ≡ input_words (words_left words.entry) }
 {
     let (start, rest) = next_word(words)?;
@@ -137,7 +137,7 @@ fn input_words(words: Option<&[u8]>) -> Option<Asked>
     let start = number(start)?;
     let end = number(end)?;
     let mode = mode(mode_word)?;
-    Some(Asked {
+    Some(InputLine {
         start: start as usize,
         end: end as usize,
         mode,
@@ -174,7 +174,7 @@ fn nothing(number: u64, text: &[u8]) -> Result<(), ScriptFault>
 fn asked_input(
     alloc: Global,
     number: u64,
-    asked: Asked,
+    asked: InputLine,
     words: Option<&[u8]>,
     text: &[u8],
 ) -> Result<ScriptInput, ScriptFault>
@@ -199,7 +199,7 @@ fn asked_input(
 fn hay_line(
     alloc: Global,
     number: u64,
-    span: Asked,
+    span: InputLine,
     text: &[u8],
 ) -> Result<ScriptInput, ScriptFault>
     requires { number + 1 < 2 ^ 64 }

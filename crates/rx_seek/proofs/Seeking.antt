@@ -11,21 +11,21 @@ use Rattle.rx_seek.specs.Seeking.{AreKept, IsFirstShown, IsSought}
 use Rattle.rx_seek.specs.declared.Sought.{Sought}
 
 -- what is looked for
-pub record Asked : Type 0 where
+pub record LiteralQuery : Type 0 where
   pub literal : List ℕ
   pub start : ℕ
   pub end : ℕ
 
 -- a source was read so far
-pub record IsUnderWay (before after : Option (List ℕ)) (asked : Asked) (sought : Sought) (buffer : List ℕ) (kept : ℕ)
-    : Type 0 where
+pub record IsUnderWay (before after : Option (List ℕ)) (asked : LiteralQuery) (sought : Sought) (buffer : List ℕ)
+    (kept : ℕ) : Type 0 where
   pub text : List ℕ
   pub taken : Consumes before after text
   pub is_sought : IsSought text asked.literal asked.start asked.end sought.len sought.place
   pub are_kept : AreKept text asked.literal buffer kept
 
 -- nothing of it
-pub none_read : (left : Option (List ℕ)) (asked : Asked) (buffer : List ℕ) → 0 < length asked.literal
+pub none_read : (left : Option (List ℕ)) (asked : LiteralQuery) (buffer : List ℕ) → 0 < length asked.literal
     → IsUnderWay left left asked (record { len = 0; place = None }) buffer 0
 none_read left asked buffer some = record {
   text = [];
@@ -62,7 +62,7 @@ module _ (kept room count : ℕ) (old new : List ℕ) (same : take kept new ≡ 
   shows_read bytes =
       grind (arith, common_steps)
 
-module _ {before after : Option (List ℕ)} {asked : Asked} {sought : Sought} {buffer : List ℕ} {kept : ℕ}
+module _ {before after : Option (List ℕ)} {asked : LiteralQuery} {sought : Sought} {buffer : List ℕ} {kept : ℕ}
     (u : IsUnderWay before after asked sought buffer kept) {read window : List ℕ}
     (shows : Shows buffer kept read window) where
   abbrev pub longer : List ℕ

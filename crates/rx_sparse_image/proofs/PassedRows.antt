@@ -1,8 +1,8 @@
 -- Rows that were read one behind another: what is true of those that were passed, and of the reading that is left.
-use Rattle.rx_spec.proofs.Prelude.{common_steps, [], ◌≡◌, ℕ, zero, suc, ◌+◌, ◌-◌, ◌<◌, ◌≤◌, Bool, false, ◌==◌}
-use Rattle.rx_spec.proofs.Prelude.{List, ◌∷◌, ◌++◌, length, drop, get_or, Result, Ok, Err, refl, ap, sym, ◌∙◌}
-use Rattle.rx_spec.proofs.Prelude.{replicate, append_assoc, ⊎_elim, arith, list_any, cases_lt, drop-drop}
-use Rattle.rx_spec.proofs.Prelude.{get_or_append_left, get_or_push, AreBytes, id_of}
+use Rattle.rx_spec.proofs.Prelude.{common_steps, [], ◌≡◌, ℕ, zero, suc, ◌+◌, ◌-◌, ◌<◌, ◌≤◌, Bool, false, ◌==◌, List}
+use Rattle.rx_spec.proofs.Prelude.{◌∷◌, ◌++◌, length, drop, get_or, Result, Ok, Err, refl, ap, sym, ◌∙◌, replicate}
+use Rattle.rx_spec.proofs.Prelude.{append_assoc, ⊎_elim, arith, list_any, cases_lt, drop-drop, get_or_append_left}
+use Rattle.rx_spec.proofs.Prelude.{get_or_push, AreBytes, id_of}
 use Rattle.std.proofs.lemmas.List.Concat.{flat_map-append}
 use Rattle.rx_wire.specs.declared.order.Order.{Order}
 use Rattle.rx_wire.specs.Kinds.{FailsBy, Kind, ◌>>=◌}

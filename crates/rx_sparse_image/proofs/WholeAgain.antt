@@ -1,7 +1,7 @@
 -- A whole image is read again, in either order and whatever follows, and its length is told, where its rows are read
 -- again.
-use Rattle.rx_spec.proofs.Prelude.{common_steps, ◌≡◌, ℕ, ◌-◌, ◌<◌, ◌≤◌, true, List, ◌++◌, length, slice_index, Ok}
-use Rattle.rx_spec.proofs.Prelude.{refl, sym, ap, subst, ◌∙◌, append_assoc, arith, rules, w32, le-leb, and_from}
+use Rattle.rx_spec.proofs.Prelude.{common_steps, ◌≡◌, ℕ, ◌-◌, ◌<◌, ◌≤◌, true, List, ◌++◌, length, slice_index, Ok, refl}
+use Rattle.rx_spec.proofs.Prelude.{sym, ap, subst, ◌∙◌, append_assoc, arith, rules, w32, le-leb, and_from}
 use Rattle.rx_spec.proofs.Prelude.{length-append, max_id}
 use Rattle.rx_wire.specs.declared.order.Order.{Order}
 use Rattle.rx_wire.specs.Kinds.{Reads}
@@ -13,8 +13,7 @@ use Rattle.rx_image_parts.specs.StartTables.{start_table_at, start_table_text}
 use Rattle.rx_image_parts.specs.QuitBytes.{quit_at, quit_text}
 use Rattle.rx_image_parts.specs.SpecialIds.{special_at, special_text}
 use Rattle.rx_image_parts.proofs.SpecialAgain.{AreSpecialIds, quit_again, special_again}
-use Rattle.rx_image_parts.proofs.ReadAgain.{head_again, words_below}
-use Rattle.rx_image_parts.proofs.ReadAgain.{regrouped}
+use Rattle.rx_image_parts.proofs.ReadAgain.{head_again, words_below, regrouped}
 use Rattle.rx_image_parts.proofs.ClassTests.{classes_pass}
 use Rattle.rx_image_parts.proofs.TablesAgain.{start_table_again}
 use Rattle.rx_sparse.specs.Rows.{Row, rows_len, rows_text}

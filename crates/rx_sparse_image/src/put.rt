@@ -5,7 +5,6 @@
 ghost use Rattle.std.specs.Prelude.{◌≡◌, ◌+◌, ◌*◌, ◌≤◌, length, map};
 ghost use Rattle.rx_wire.specs.declared.order.Order.{Order};
 ghost use Rattle.rx_dense.specs.Layouts.{context_number};
-ghost use Rattle.rx_image_parts.specs.Heads.{head_text};
 ghost use Rattle.rx_image_parts.specs.StartTables.{number_or_none, start_table_text};
 ghost use Rattle.rx_image_parts.specs.Words.{words_text};
 ghost use Rattle.rx_image_parts.specs.QuitBytes.{quit_text};
@@ -14,14 +13,13 @@ ghost use Rattle.rx_image_parts.specs.Written.{IsPut};
 ghost use Rattle.rx_sparse.specs.Layouts.{IsShaped};
 ghost use Rattle.rx_sparse.specs.Rows.{rows_len, rows_text};
 ghost use Rattle.rx_sparse_image.specs.Images.{row_bytes_text};
-ghost use Rattle.rx_sparse_image.specs.Images.{image_len, sparse_label, start_table_of, text};
+ghost use Rattle.rx_sparse_image.specs.Images.{image_len, start_table_of, text};
 
 use crate::turned::put_rows;
 use rx_base::Start;
-use rx_dense::Flags;
 use rx_image_parts::{
-    CONTEXTS, ENDIANNESS, NONE, VERSION, context_number, flags_word, kind_number, put_plain,
-    put_quit, put_special, put_word, universal_word,
+    CONTEXTS, NONE, context_number, kind_number, put_head, put_plain, put_quit, put_special,
+    put_word, universal_word,
 };
 use rx_search::Automaton;
 use rx_sparse::{ByteStore, DFA};
@@ -29,19 +27,6 @@ use rx_wire::{Endian, Order};
 
 /// The label with its NUL and its padding.
 const LABEL: [u8; 32] = *b"rust-regex-automata-dfa-sparse\0\0";
-
-fn put_head<E: Endian>(flags: &Flags, dst: &mut [u8], at: usize) -> usize
-    requires { at + 48 ≤ length dst.old }
-    ensures len { length dst.new ≡ length dst.old }
-    ensures place { result ≡ at + 48 }
-    ensures put { IsPut (head_text E.order sparse_label flags.now) dst.old dst.new at result }
-{
-    let label = put_plain(&LABEL, dst, at);
-    let order = put_word::<E>(ENDIANNESS, dst, label);
-    let version = put_word::<E>(VERSION, dst, order);
-    let unused = put_word::<E>(0, dst, version);
-    put_word::<E>(flags_word(flags), dst, unused)
-}
 
 /// The number of rows, as a word.
 fn row_word<T: ByteStore>(dfa: &DFA<T>) -> u32
@@ -169,7 +154,7 @@ pub(crate) fn put_image<E: Endian, T: ByteStore>(
     ensures place { result ≡ image_len dfa.now.layout }
     ensures put { IsPut (text E.order dfa.now.layout) dst.old dst.new 0 result }
 {
-    let head = put_head::<E>(dfa.flags(), dst, 0);
+    let head = put_head::<E>(&LABEL, dfa.flags(), dst, 0);
     let rows = put_row_bytes::<E, T>(order, dfa, dst, head);
     let starts = put_start_table::<E, T>(dfa, dst, rows);
     let special = put_special::<E>(dfa.special(), dst, starts);

@@ -3,24 +3,24 @@ use Rattle.rx_spec.proofs.Prelude.{◌≡◌, ℕ, ◌^◌, ◌<◌, ◌++◌, B
 use Rattle.rx_spec.proofs.Prelude.{None, Some, ap, ap₂, sym, ◌∙◌, subst, arith, Bor, IfSome, slice_index, option_copied}
 use Rattle.rx_spec.proofs.Prelude.{option_map_or, State, step}
 use Rattle.rx_stepper.proofs.Prelude.{AreGroups, Current, FitsCurrent, FitsLead, IsLeadOf, LeadIn, LeadSteps, Stand}
-use Rattle.rx_stepper.proofs.Prelude.{Steps, Table, bits_of, facts_with, lead_of, led_of, made, matches_in, patterns_of}
-use Rattle.rx_stepper.proofs.Prelude.{spelled, targets_in, units_of, without}
+use Rattle.rx_stepper.proofs.Prelude.{ColumnSteps, Table, bits_of, facts_with, lead_of, led_of, made, matches_in}
+use Rattle.rx_stepper.proofs.Prelude.{patterns_of, spelled, targets_in, units_of, without}
 use Rattle.rx_stepper.proofs.KeyLaws.{bits_small}
 use Rattle.rx_stepper.proofs.StepLaws.{step_made}
 use Rattle.rx_stepper.proofs.StepperParts.{gathers}
 
 -- where the lead-in's rows lead on a column, and those of them that match beside some others, where they go on
-abbrev pub targets_by : Option (Bor Steps) → ℕ → List ℕ
+abbrev pub targets_by : Option (Bor ColumnSteps) → ℕ → List ℕ
 targets_by lead column = option_map_or (λ b. targets_in b.now column) lead []
 
-abbrev pub matches_by : Option (Bor Steps) → List ℕ → ℕ → List ℕ
+abbrev pub matches_by : Option (Bor ColumnSteps) → List ℕ → ℕ → List ℕ
 matches_by lead mine group = option_map_or (λ b. without mine (matches_in b.now group)) lead []
 
 -- what is gathered for a column, and the label of its group
-abbrev pub targets_for : Current → Option (Bor Steps) → ℕ → List ℕ
+abbrev pub targets_for : Current → Option (Bor ColumnSteps) → ℕ → List ℕ
 targets_for current lead column = targets_in current.steps column ++ targets_by lead column
 
-abbrev pub label_for : Table → Current → Option (Bor Steps) → ℕ → List ℕ
+abbrev pub label_for : Table → Current → Option (Bor ColumnSteps) → ℕ → List ℕ
 label_for t current lead group =
     let mine = matches_in current.steps group in
     patterns_of t.nfa.rows (mine ++ matches_by lead mine group)
@@ -38,7 +38,7 @@ module _ {t : Table} {lead_in : LeadIn} {leads : List LeadSteps} {current : Curr
     (groups : AreGroups t.nfa (units_of t.classes) t.columns.groups.of.items) (fits_lead : FitsLead t lead_in leads)
     (fits : FitsCurrent t leads current) where
   -- the state that follows is made of it
-  pub column_made : (column : ℕ) → column < length (units_of t.classes) → (lead : Option (Bor Steps))
+  pub column_made : (column : ℕ) → column < length (units_of t.classes) → (lead : Option (Bor ColumnSteps))
       → IsLeadOf current leads t.kind (group_in t column) (option_copied lead)
       → step t.nfa t.kind (state_in t current) (unit_in t column)
       ≡ made t.nfa (targets_for current lead column) (facts_with (group_in t column))
@@ -50,14 +50,14 @@ module _ {t : Table} {lead_in : LeadIn} {leads : List LeadSteps} {current : Curr
       (sym (groups.each column h).facts)
 
   -- its label isn't too long for a key
-  pub column_few : (column : ℕ) → column < length (units_of t.classes) → (lead : Option (Bor Steps))
+  pub column_few : (column : ℕ) → column < length (units_of t.classes) → (lead : Option (Bor ColumnSteps))
       → IsLeadOf current leads t.kind (group_in t column) (option_copied lead)
       → length (label_for t current lead (group_in t column)) < 2 ^ 32
   column_few column h lead is = (gathers t fits_lead fits column h lead is).few
 
   -- columns of one group for which equal lists are gathered lead to one state
   pub columns_alike : (column other : ℕ) → column < length (units_of t.classes) → other < length (units_of t.classes)
-      → (lead : Option (Bor Steps)) → group_in t column ≡ group_in t other
+      → (lead : Option (Bor ColumnSteps)) → group_in t column ≡ group_in t other
       → IsLeadOf current leads t.kind (group_in t column) (option_copied lead)
       → targets_for current lead column ≡ targets_for current lead other
       → step t.nfa t.kind (state_in t current) (unit_in t column)
@@ -82,7 +82,7 @@ module _ {t : Table} {lead_in : LeadIn} {leads : List LeadSteps} {current : Curr
       within o n false e = subst (λ v. IfSome v (λ context. context < length leads)) (sym e) tt
 
   -- and they have each column
-  pub lead_column : (column group : ℕ) → column < length (units_of t.classes) → (lead : Option (Bor Steps))
+  pub lead_column : (column group : ℕ) → column < length (units_of t.classes) → (lead : Option (Bor ColumnSteps))
       → IsLeadOf current leads t.kind group (option_copied lead)
       → IfSome lead (λ steps. column < length steps.now.targets.items)
   lead_column column group h None is = tt
@@ -91,7 +91,7 @@ module _ {t : Table} {lead_in : LeadIn} {leads : List LeadSteps} {current : Curr
       subst (λ s. column < length s.targets.items) (sym is.steps_are) (omega arith)
 
 -- The lists that are gathered for a column, which is of a group.
-pub record IsGathered (t : Table) (leads : List LeadSteps) (current : Current) (lead : Option (Bor Steps))
+pub record IsGathered (t : Table) (leads : List LeadSteps) (current : Current) (lead : Option (Bor ColumnSteps))
     (column group : ℕ) (from label : List ℕ) : Type 0 where
   pub within : column < length (units_of t.classes)
   pub group_is : group ≡ group_in t column
@@ -99,7 +99,7 @@ pub record IsGathered (t : Table) (leads : List LeadSteps) (current : Current) (
   pub from_is : from ≡ targets_for current lead column
   pub label_is : label ≡ label_for t current lead group
 
-module _ {t : Table} {lead_in : LeadIn} {leads : List LeadSteps} {current : Current} {lead : Option (Bor Steps)}
+module _ {t : Table} {lead_in : LeadIn} {leads : List LeadSteps} {current : Current} {lead : Option (Bor ColumnSteps)}
     {column group : ℕ} {from label : List ℕ} (g : IsGathered t leads current lead column group from label)
     (groups : AreGroups t.nfa (units_of t.classes) t.columns.groups.of.items) (fits_lead : FitsLead t lead_in leads)
     (fits : FitsCurrent t leads current) where

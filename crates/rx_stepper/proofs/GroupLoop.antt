@@ -2,8 +2,8 @@
 use Rattle.rx_spec.proofs.Prelude.{common_steps, ◌≡◌, ◌≢◌, ◌+◌, ◌<◌, ◌≤◌, ◌++◌, Bool, true, false, List, [], ℕ, length}
 use Rattle.rx_spec.proofs.Prelude.{map, arith, ◌∷◌, refl, or_parts, slice_index_or, list_any, Facts, Row, State}
 use Rattle.rx_spec.proofs.Prelude.{is_match_row, row_at}
-use Rattle.rx_stepper.proofs.Prelude.{AreGroups, MatchKind, NFA, Reads, Stand, Steps, list_at, matches_of, meaning}
-use Rattle.rx_stepper.proofs.Prelude.{rows_in}
+use Rattle.rx_stepper.proofs.Prelude.{AreGroups, MatchKind, NFA, Reads, Stand, ColumnSteps, list_at, matches_of}
+use Rattle.rx_stepper.proofs.Prelude.{meaning, rows_in}
 use Rattle.rx_stepper.specs.declared.closures.Closures.{Closures}
 use Rattle.rx_stepper.specs.declared.columns.Columns.{Columns}
 use Rattle.rx_stepper.proofs.StepLaws.{Done}
@@ -25,7 +25,7 @@ stand nfa kind state = record { nfa = meaning nfa; kind = kind; state = state }
 abbrev pub stand_of : Finding → Stand
 stand_of f = stand f.closures.nfa.now f.kind (rows_in f.rows f.last)
 
-pub record Between (f : Finding) (group : ℕ) (steps : Steps) (closures : Closures) (room : ℕ) : Type 0 where
+pub record Between (f : Finding) (group : ℕ) (steps : ColumnSteps) (closures : Closures) (room : ℕ) : Type 0 where
   pub nfa : closures.nfa.now ≡ f.closures.nfa.now
   pub columns : length steps.targets.items ≡ f.count
   pub kept_room : f.room ≤ room
@@ -58,7 +58,7 @@ module _ {lists : List (List ℕ)} {used : List Bool} {matches : List ℕ} {grou
       → list_at more group ≡ list_at lists group ++ matches → MatchesTo more used matches (group + 1)
   matches_more {more} others here = grind (arith, common_steps)
 
-pub record PlainBetween (start now : Steps) (used : List Bool) (matches : List ℕ) (group : ℕ) : Type 0 where
+pub record PlainBetween (start now : ColumnSteps) (used : List Bool) (matches : List ℕ) (group : ℕ) : Type 0 where
   pub targets : now.targets ≡ start.targets
   pub has : now.has_matches ≡ true
   pub told : MatchesTo (map (λ v. v.items) now.matches.items) used matches group

@@ -37,7 +37,7 @@ pub use Rattle.rx_stepper.specs.declared.current.Current.{Current}
 pub use Rattle.rx_stepper.specs.declared.lead_in.LeadIn.{LeadIn}
 pub use Rattle.rx_stepper.specs.declared.lead_steps.LeadSteps.{LeadSteps}
 pub use Rattle.rx_stepper.specs.declared.listed_sets.ListedSet.{ListedSet}
-pub use Rattle.rx_stepper.specs.declared.steps.Steps.{Steps}
+pub use Rattle.rx_stepper.specs.declared.steps.ColumnSteps.{ColumnSteps}
 pub use Rattle.rx_stepper.specs.declared.thin_row.ThinRow.{ThinRow}
 pub use Rattle.std.proofs.Common.{take-append-drop}
 pub use Rattle.std.specs.Prelude.{IfNone}

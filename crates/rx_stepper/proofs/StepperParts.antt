@@ -5,9 +5,9 @@ use Rattle.rx_spec.proofs.Prelude.{sym, ◌∙◌, subst, arith, length-append, 
 use Rattle.rx_spec.proofs.Prelude.{slice_get, slice_index, unwrap_or, option_copied, option_map_or, id_count, Facts}
 use Rattle.rx_spec.proofs.Prelude.{Row, pattern_of, row_at}
 use Rattle.rx_stepper.proofs.Prelude.{AreEmpty, AreStepsOf, Current, FitsCurrent, FitsLead, Follows, IsLeadIn, IsLeadOf}
-use Rattle.rx_stepper.proofs.Prelude.{IsStep, LeadIn, LeadSteps, Stand, Steps, Table, bits_of, by_test, facts_with}
-use Rattle.rx_stepper.proofs.Prelude.{goes_on, going, lead_of, led_of, matches_in, own_of, pattern_few, patterns_of}
-use Rattle.rx_stepper.proofs.Prelude.{rows_by, rows_in, spelled, targets_in, units_of, without}
+use Rattle.rx_stepper.proofs.Prelude.{IsStep, LeadIn, LeadSteps, Stand, ColumnSteps, Table, bits_of, by_test}
+use Rattle.rx_stepper.proofs.Prelude.{facts_with, goes_on, going, lead_of, led_of, matches_in, own_of, pattern_few}
+use Rattle.rx_stepper.proofs.Prelude.{patterns_of, rows_by, rows_in, spelled, targets_in, units_of, without}
 use Rattle.rx_stepper.proofs.Members.{was}
 use Rattle.rx_stepper.proofs.StepLaws.{Leads, dead_steps, going_alone, leads_alone, leads_led}
 use Rattle.rx_stepper.proofs.Without.{without_nil, without_new, without_old}
@@ -240,7 +240,7 @@ module _ (t : Table) {lead_in : LeadIn} {leads : List LeadSteps} {current : Curr
       → current.led_in ≡ (if b then Some (bits_of (facts_with (slice_index key 0))) else None)
   led_is b e = fits.led_in ∙ ap (λ v. if v then Some (bits_of (facts_with (slice_index key 0))) else None) e
 
-  pub behind : (b : Steps) → Follows current leads t.kind group b
+  pub behind : (b : ColumnSteps) → Follows current leads t.kind group b
       → Gathers s unit (targets_in current.steps column ++ targets_in b column)
       (patterns_of t.nfa.rows (mine ++ without mine (matches_in b group)))
   behind b f =
@@ -249,7 +249,7 @@ module _ (t : Table) {lead_in : LeadIn} {leads : List LeadSteps} {current : Curr
       ap (λ o. unwrap_or o 0) (sym (led_is true e) ∙ f.led_in) in
       let facts = ap facts_with (sym bits) ∙ facts_back (facts_with (slice_index key 0)) in
       let found = fits_lead.steps f.context f.lead f.there (fits.found f.context f.lead f.led_in f.there) column h in
-      let Is = λ (rows : List ℕ) (known : Facts) (v : Steps). IsStep
+      let Is = λ (rows : List ℕ) (known : Facts) (v : ColumnSteps). IsStep
       (record { nfa = t.nfa; kind = t.kind; state = rows_in rows known }) unit (targets_in v column)
       (matches_in v group) in
       let theirs =
@@ -280,7 +280,7 @@ module _ (t : Table) {lead_in : LeadIn} {leads : List LeadSteps} {current : Curr
       i)
       (λ e. alone e)
 
-  pub gathers : (o : Option (Bor Steps)) → IsLeadOf current leads t.kind group (option_copied o)
+  pub gathers : (o : Option (Bor ColumnSteps)) → IsLeadOf current leads t.kind group (option_copied o)
       → Gathers s unit (targets_in current.steps column ++ option_map_or (λ b. targets_in b.now column) o [])
       (patterns_of t.nfa.rows (mine ++ option_map_or (λ b. without mine (matches_in b.now group)) o []))
   gathers None i =

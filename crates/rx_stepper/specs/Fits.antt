@@ -14,7 +14,7 @@ use Rattle.rx_stepper.specs.declared.columns.Columns.{Columns}
 use Rattle.rx_stepper.specs.declared.current.Current.{Current}
 use Rattle.rx_stepper.specs.declared.lead_in.LeadIn.{LeadIn}
 use Rattle.rx_stepper.specs.declared.lead_steps.LeadSteps.{LeadSteps}
-use Rattle.rx_stepper.specs.declared.steps.Steps.{Steps}
+use Rattle.rx_stepper.specs.declared.steps.ColumnSteps.{ColumnSteps}
 
 pub record Fits (nfa : Nfa) (classes : List ℕ) (columns : Columns) : Type 0 where
   pub counted : length (units_of classes) ≡ alphabet_len classes
@@ -33,7 +33,7 @@ abbrev pub table_of : Nfa → MatchKind → List ℕ → Columns → Table
 table_of nfa kind classes columns = record { nfa = nfa; kind = kind; classes = classes; columns = columns }
 
 -- the steps are those of some rows, where this is known of the unit read last
-abbrev pub AreStepsOf : Table → List ℕ → ℕ → Steps → Type 0
+abbrev pub AreStepsOf : Table → List ℕ → ℕ → ColumnSteps → Type 0
 AreStepsOf t rows context steps =
     let s : Stand = record { nfa = t.nfa; kind = t.kind; state = rows_in rows (facts_with context) } in
     AreSteps s (units_of t.classes) t.columns.groups.of.items

@@ -12,7 +12,7 @@ ghost use Rattle.rx_stepper.specs.Steps.{Stand, AreEmpty, AreSteps, rows_in};
 use crate::closures::Closures;
 use crate::columns::Columns;
 use crate::keys::{context_of, is_led, own_of};
-use crate::steps::Steps;
+use crate::steps::ColumnSteps;
 use rx_base::{MatchKind, StateID};
 use std::alloc::{AllocError, Global};
 
@@ -23,7 +23,7 @@ pub(crate) struct Current {
     pub(crate) key: Vec<u32>,
     /// The rows in its key.
     rows: Vec<StateID>,
-    pub(crate) steps: Steps,
+    pub(crate) steps: ColumnSteps,
     /// The number of the facts about the last unit, if the other rows of the lead-in follow those in the key.
     pub(crate) led_in: Option<u8>,
 }
@@ -40,7 +40,7 @@ impl Current {
         Ok(Current {
             key: Vec::new(alloc),
             rows: Vec::new(alloc),
-            steps: Steps::new(alloc, columns)?,
+            steps: ColumnSteps::new(alloc, columns)?,
             led_in: None,
         })
     }

@@ -9,12 +9,16 @@ ghost use Rattle.rx_stepper.specs.Gathering.{targets_in, matches_in};
 
 use crate::closures::Closures;
 use crate::joined::Joined;
-use crate::steps::Steps;
+use crate::steps::ColumnSteps;
 use rx_base::PatternID;
 use std::alloc::AllocError;
 
 /// The rows to which a column leads the own rows, and after them those to which it leads the lead-in's, if these go on.
-pub(crate) fn targets<'s>(own: &'s Steps, lead: Option<&'s Steps>, column: usize) -> Joined<'s>
+pub(crate) fn targets<'s>(
+    own: &'s ColumnSteps,
+    lead: Option<&'s ColumnSteps>,
+    column: usize,
+) -> Joined<'s>
     requires column { column < length own.now.targets.items }
     requires lead_column { IfSome lead (λ steps. column < length steps.now.targets.items) }
     ensures { result.first.now ++ result.second.now
@@ -34,8 +38,8 @@ pub(crate) fn targets<'s>(own: &'s Steps, lead: Option<&'s Steps>, column: usize
 /// others of the lead-in's rows, if these go on.
 pub(crate) fn write_label(
     closures: &Closures<'_>,
-    own: &Steps,
-    lead: Option<&Steps>,
+    own: &ColumnSteps,
+    lead: Option<&ColumnSteps>,
     group: u8,
     label: &mut Vec<PatternID>,
 ) -> Result<(), AllocError>
@@ -61,7 +65,7 @@ pub(crate) fn write_label(
 }
 
 /// Whether some row of the lead-in may match, if these go on.
-fn may_match(lead: Option<&Steps>) -> bool
+fn may_match(lead: Option<&ColumnSteps>) -> bool
     ensures { result ≡ false → IfSome lead.entry (λ s. AreEmpty (map (λ v. v.items) s.now.matches.items)) }
 {
     match lead {

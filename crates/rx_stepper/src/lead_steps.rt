@@ -8,7 +8,7 @@ ghost use Rattle.rx_stepper.specs.Steps.{Stand, AreSteps, rows_in};
 
 use crate::closures::Closures;
 use crate::columns::Columns;
-use crate::steps::Steps;
+use crate::steps::ColumnSteps;
 use rx_base::{Facts, MatchKind, StateID};
 use std::alloc::{AllocError, Global};
 
@@ -18,7 +18,7 @@ const CONTEXTS: usize = 32;
 /// What the steps of the lead-in's rows need, for one set of facts about the last unit.
 #[derive(Drop)]
 pub(crate) struct LeadSteps {
-    pub(crate) steps: Steps,
+    pub(crate) steps: ColumnSteps,
     /// Whether they are found. They are found when they are first needed.
     pub(crate) are_found: bool,
 }
@@ -30,7 +30,7 @@ impl LeadSteps {
         ensures none { IfOk result (λ l. l.are_found ≡ false) }
     {
         Ok(LeadSteps {
-            steps: Steps::new(alloc, columns)?,
+            steps: ColumnSteps::new(alloc, columns)?,
             are_found: false,
         })
     }

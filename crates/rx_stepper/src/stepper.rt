@@ -20,7 +20,7 @@ use crate::joined::Joined;
 use crate::lead_in::LeadIn;
 use crate::lead_steps::LeadSteps;
 use crate::matches::goes_on;
-use crate::steps::Steps;
+use crate::steps::ColumnSteps;
 use crate::{gathered, keys};
 use rx_base::{ByteClasses, Facts, MatchKind, PatternID, Start, StateID};
 use rx_expr::thompson::NFA;
@@ -285,7 +285,7 @@ fn lead_steps<'l>(
     leads: &'l [LeadSteps],
     kind: MatchKind,
     group: u8,
-) -> Option<&'l Steps>
+) -> Option<&'l ColumnSteps>
     requires group { group < 32 }
     requires context { IfSome current.now.led_in (λ context. context < length leads.now) }
     ensures { IsLeadOf current.now leads.now kind group (option_copied result) }

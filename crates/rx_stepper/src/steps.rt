@@ -20,7 +20,7 @@ use std::alloc::{AllocError, Global};
 
 /// What the steps of some rows need on each column.
 #[derive(Drop)]
-pub(crate) struct Steps {
+pub(crate) struct ColumnSteps {
     /// For each group of columns, the rows that match before its units and go on.
     pub(crate) matches: Vec<Vec<StateID>>,
     /// For each column, the rows that follow those that go on before its unit and read it.
@@ -31,9 +31,9 @@ pub(crate) struct Steps {
     ghost no_matches: { has_matches ≡ false → AreEmpty (map (λ v. v.items) matches.items) },
 }
 
-impl Steps {
+impl ColumnSteps {
     /// The steps of no rows.
-    pub(crate) fn new(alloc: Global, columns: usize) -> Result<Steps, AllocError>
+    pub(crate) fn new(alloc: Global, columns: usize) -> Result<ColumnSteps, AllocError>
         ensures columns { IfOk result (λ s. length s.targets.items ≡ columns) }
         ensures matches { IfOk result (λ s. AreEmpty (map (λ v. v.items) s.matches.items)) }
         ensures targets { IfOk result (λ s. AreEmpty (map (λ v. v.items) s.targets.items)) }
@@ -46,7 +46,7 @@ impl Steps {
         for column in 0..columns {
             targets.push(Vec::new(alloc))?;
         }
-        Ok(Steps {
+        Ok(ColumnSteps {
             matches,
             targets,
             has_matches: false,
@@ -104,7 +104,7 @@ impl Steps {
     }
 }
 
-impl Steps {
+impl ColumnSteps {
     /// Adds the steps of rows of which none asserts, so that the same rows go on before every unit.
     fn add_plain(
         &mut self,

@@ -53,17 +53,3 @@ impl<L> Steps<L> {
 /// A ledger for a counter whose count is all that matters.
 #[derive(Clone, Copy, Debug, PartialEq, Eq)]
 pub struct Tally;
-
-#[cfg(test)]
-mod tests {
-    use super::*;
-
-    #[test]
-    fn each_tick_is_counted(rt: HostRuntime) {
-        let mut steps = Steps::new(Tally);
-        assert_eq!(rt; steps.count(), 0);
-        steps.tick();
-        steps.tick();
-        assert_eq!(rt; steps.count(), 2);
-    }
-}

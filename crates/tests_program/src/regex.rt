@@ -52,7 +52,7 @@ pub(crate) enum Mode {
 
 /// What is searched: a haystack and the span in it.
 #[derive(Clone, Copy)]
-pub(crate) struct Asked<'h>(
+pub(crate) struct Query<'h>(
     pub(crate) &'h [u8],
     pub(crate) usize,
     pub(crate) usize,
@@ -103,7 +103,7 @@ pub(crate) fn told(
     alloc: Global,
     exprs: &[Expr],
     plan: &Plan,
-    asked: Asked<'_>,
+    asked: Query<'_>,
 ) -> Result<String, Fail> {
     if !Input::fits(asked.0.len(), asked.1, asked.2) {
         return Err(Fail::new("the span isn't one of the haystack"));
@@ -128,7 +128,7 @@ fn compare(
     alloc: Global,
     patterns: &str,
     changes: &[Change],
-    asked: Asked<'_>,
+    asked: Query<'_>,
     want: &str,
 ) -> Result<(), Fail> {
     let exprs = read(alloc, patterns)?;
@@ -141,25 +141,25 @@ fn compare(
 
 #[test]
 fn the_leftmost_match_in_the_span_is_told(rt: HostRuntime) -> Result<(), Fail> {
-    let rows: &[(&str, &[Change], Asked<'_>, &str)] = &[
-        ("a", &[], Asked(b"bab", 0, 3, Mode::Anywhere), "0 1 2"),
-        ("a b", &[], Asked(b"ba", 0, 2, Mode::AtStart), "1 0 1"),
+    let rows: &[(&str, &[Change], Query<'_>, &str)] = &[
+        ("a", &[], Query(b"bab", 0, 3, Mode::Anywhere), "0 1 2"),
+        ("a b", &[], Query(b"ba", 0, 2, Mode::AtStart), "1 0 1"),
         (
             "a b",
             &[Change::PatternStarts],
-            Asked(b"a", 0, 1, Mode::OfPattern(1)),
+            Query(b"a", 0, 1, Mode::OfPattern(1)),
             "none",
         ),
         (
             "<word> x .",
             &[Change::LineTerminator(b'a')],
-            Asked(b"ax", 1, 2, Mode::Anywhere),
+            Query(b"ax", 1, 2, Mode::Anywhere),
             "none",
         ),
         (
             NUMBER,
             &[Change::UnicodeWord],
-            Asked(b"123\xce\xb2", 0, 3, Mode::Anywhere),
+            Query(b"123\xce\xb2", 0, 3, Mode::Anywhere),
             "quit at the byte 0xce at 3",
         ),
     ];
@@ -279,7 +279,7 @@ fn many_patterns_are_built_and_searched(rt: HostRuntime) -> Result<(), Fail> {
         let plan = plan_with(kind, &[]);
         let rows = rows_of(alloc, &exprs, &plan)?;
         assert!(rt; rows.as_str() == "626 623", "{kind:?}: {rows}");
-        let asked = Asked(b"yxjt.xaa", 0, 8, Mode::Anywhere);
+        let asked = Query(b"yxjt.xaa", 0, 8, Mode::Anywhere);
         let told = told(alloc, &exprs, &plan, asked)?;
         assert!(rt; told.as_str() == "199 1 4", "{kind:?}: {told}");
     }
@@ -372,7 +372,7 @@ fn faults_say_why(rt: HostRuntime) -> Result<(), Fail> {
         ),
     ];
     for (patterns, changes, want) in rows {
-        let asked = Asked(b"ba", 1, 2, Mode::Anywhere);
+        let asked = Query(b"ba", 1, 2, Mode::Anywhere);
         compare(&rt, rt.alloc(), patterns, changes, asked, want)?;
     }
     Ok(())

@@ -1,4 +1,4 @@
-//! Tests of images: that tables read in place and copied are the same, and that accelerators are read and written alone.
+//! Tests of images: tables read in place and copied are the same, and accelerators are read and written alone.
 
 use rx_dense::{Accel, Accels};
 use rx_dense_image::{AccelImage, AccelsImage};

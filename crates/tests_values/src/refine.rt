@@ -139,8 +139,8 @@ fn chains(rt: HostRuntime) -> Result<(), Fail> {
     Ok(())
 }
 
-/// Tables worked by hand, with the number of units, the gap after each row, and the greatest block. The last two have no
-/// units and no rows.
+/// Tables worked by hand, with the number of units, the gap after each row, and the greatest block. The last two have
+/// no units and no rows.
 const WORKED: [(usize, usize, &[u32], &[u32], Option<u32>); 6] = [
     (1, 0, &[1, 2, 3, 3], &[0, 0, 0, 1], Some(3)),
     (1, 0, &[1, 0, 3, 2], &[0, 0, 0, 0], Some(0)),

@@ -1,5 +1,5 @@
-use Rattle.rx_spec.proofs.Prelude.{common_steps, ◌≡◌, ℕ, ◌+◌, ◌<◌, eqb, false, cond, length, slice_index, sym, ap}
-use Rattle.rx_spec.proofs.Prelude.{◌∙◌, arith}
+use Rattle.rx_spec.proofs.Prelude.{common_steps, ◌≡◌, ℕ, ◌+◌, ◌<◌, eqb, false, cond, length, slice_index, sym, ap, ◌∙◌}
+use Rattle.rx_spec.proofs.Prelude.{arith}
 use Rattle.rx_dense.specs.Parts.{layout_of}
 use Rattle.rx_dense.specs.Layouts.{column}
 use Rattle.rx_dense.proofs.Rows.{class_column}

@@ -1,5 +1,4 @@
-use Rattle.rx_spec.proofs.Prelude.{◌≡◌, ℕ, get_or, map, refl, sym, ap, ◌∙◌, arith, range_with_len, fill_by_all}
-use Rattle.rx_spec.proofs.Prelude.{map-map}
+use Rattle.rx_spec.proofs.Prelude.{◌≡◌, ℕ, get_or, map, refl, sym, ap, ◌∙◌, arith, range_with_len, fill_by_all, map-map}
 use Rattle.rx_spec.specs.declared.Start.{Start}
 use Rattle.rx_dense.specs.Layouts.{context_number}
 use Rattle.rx_dense_image.proofs.put.context_numbers.Goals as goal

@@ -1,5 +1,5 @@
-use Rattle.rx_spec.proofs.Prelude.{◌≡◌, ℕ, ◌+◌, ◌<◌, List, length, get_or, map, slice_index, refl, sym, ap, subst}
-use Rattle.rx_spec.proofs.Prelude.{◌∙◌, arith, range_with_len, fill_by_all, map-map, set}
+use Rattle.rx_spec.proofs.Prelude.{◌≡◌, ℕ, ◌+◌, ◌<◌, List, length, get_or, map, slice_index, refl, sym, ap, subst, ◌∙◌}
+use Rattle.rx_spec.proofs.Prelude.{arith, range_with_len, fill_by_all, map-map, set}
 use Rattle.std.proofs.lemmas.List.Edits.{fill_by_more}
 use Rattle.std.proofs.Math.ListN.{length-set}
 use Rattle.rx_spec.specs.declared.Start.{Start}

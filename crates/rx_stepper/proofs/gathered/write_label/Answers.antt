@@ -1,11 +1,11 @@
 use Rattle.rx_spec.proofs.Prelude.{common_steps, ◌≡◌, ℕ, ◌++◌, List, [], map, Option, sym, ◌∙◌, arith, Bor, IfSome}
 use Rattle.rx_spec.proofs.Prelude.{option_map_or, Row}
-use Rattle.rx_stepper.proofs.Prelude.{AreEmpty, Steps, matches_in, meaning, patterns_of, without}
+use Rattle.rx_stepper.proofs.Prelude.{AreEmpty, ColumnSteps, matches_in, meaning, patterns_of, without}
 use Rattle.rx_stepper.proofs.Without.{without_nil}
 use Rattle.rx_stepper.proofs.gathered.write_label.Goals as goal
 
 -- where none of the rows may match there is no label
-none_told : (rows : List Row) (group : ℕ) {mine : List ℕ} (lead : Option (Bor Steps)) → mine ≡ []
+none_told : (rows : List Row) (group : ℕ) {mine : List ℕ} (lead : Option (Bor ColumnSteps)) → mine ≡ []
     → IfSome lead (λ s. AreEmpty (map (λ v. v.items) s.now.matches.items))
     → patterns_of rows (mine ++ option_map_or (λ s. without mine (matches_in s.now group)) lead []) ≡ []
 none_told rows group lead none empty = grind (arith, common_steps, without_nil)

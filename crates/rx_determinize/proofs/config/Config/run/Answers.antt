@@ -1,5 +1,5 @@
 use Rattle.rx_spec.proofs.Prelude.{refl, ap, sym, subst, MatchBool, IsSupported, IsUnsupported}
-use Rattle.rx_determinize.proofs.Prelude.{Settings, build_in, meaning}
+use Rattle.rx_determinize.proofs.Prelude.{Settled, build_in, meaning}
 use Rattle.rx_determinize.proofs.DeterminizedLaws.{IsInPlace, determinized}
 use Rattle.rx_determinize.proofs.LimitLaws.{beginning_of}
 use Rattle.rx_determinize.proofs.config.Config.run.Goals as goal
@@ -8,7 +8,7 @@ pub build_rows-requires-clause-supported : goal.build_rows-requires-clause-suppo
 build_rows-requires-clause-supported c =
     let b = build_in (meaning c.args.nfa.now) c.args.self.now c.args.dfa.now in
     subst (λ answer. MatchBool answer (IsUnsupported b) (IsSupported b)) c.if-is_unsupported.false
-    (c.is_unsupported.ensures b refl (sym (ap (λ (s : Settings). s.quit) c.self.view_is)))
+    (c.is_unsupported.ensures b refl (sym (ap (λ (s : Settled). s.quit) c.self.view_is)))
 
 pub shuffle-requires : goal.shuffle-requires
 shuffle-requires c = c.in_ok-matches.ensures.states.are_matches

@@ -39,7 +39,7 @@ returns-then-not-interned-clause-ok c =
 pub returns-then-not-interned-clause-working : goal.returns-then-not-interned-clause-working
 returns-then-not-interned-clause-working c =
     let at = (goal.at.returns-then-not-interned-clause-working c).Then-not-interned in
-    subst (λ (m : Met). IsWorking (keying (stepping_of c.args.stepper.now) c.args.dfa.now) c.args.limits m
+    subst (λ (m : Met). IsWorking (keying (stepping_of c.args.stepper.now) c.args.dfa.now) c.args.config.now m
     c.args.dfa.now) (sym (same_met (keys_same at)
     (ap (λ (m : Met). m.size) c.self.view_is) (ap (λ (m : Met). m.patterns) c.self.view_is))) c.requires.can.working
 

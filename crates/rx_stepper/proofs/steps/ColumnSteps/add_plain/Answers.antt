@@ -2,7 +2,7 @@ use Rattle.rx_spec.proofs.Prelude.{common_steps, ℕ, map, ap, sym, ◌∙◌, a
 use Rattle.rx_stepper.proofs.Prelude.{list_at, matches_of, meaning}
 use Rattle.rx_stepper.proofs.EmptyLists.{set_here, set_other, list_there, written_more}
 use Rattle.rx_stepper.proofs.GroupLoop.{matches_more, none_match}
-use Rattle.rx_stepper.proofs.steps.Steps.add_plain.Goals as goal
+use Rattle.rx_stepper.proofs.steps.ColumnSteps.add_plain.Goals as goal
 
 pub loop-group-init : goal.loop-group-init
 loop-group-init c = grind (arith, common_steps)

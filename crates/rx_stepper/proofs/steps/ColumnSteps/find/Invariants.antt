@@ -1,6 +1,6 @@
 use Rattle.rx_spec.proofs.Prelude.{vec_capacity, length}
 use Rattle.rx_stepper.proofs.GroupLoop.{Between, Finding}
-use Rattle.rx_stepper.proofs.steps.Steps.find.Given as goal
+use Rattle.rx_stepper.proofs.steps.ColumnSteps.find.Given as goal
 
 abbrev pub invariant-loop-group : goal.invariant-loop-group
 invariant-loop-group l =

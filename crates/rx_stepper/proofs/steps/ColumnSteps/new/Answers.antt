@@ -1,5 +1,5 @@
 use Rattle.rx_spec.proofs.Prelude.{arith, common_steps}
-use Rattle.rx_stepper.proofs.steps.Steps.new.Goals as goal
+use Rattle.rx_stepper.proofs.steps.ColumnSteps.new.Goals as goal
 
 pub loop-group-preserved : goal.loop-group-preserved
 loop-group-preserved c = grind (arith, common_steps)

@@ -1,13 +1,13 @@
 use Rattle.rx_spec.proofs.Prelude.{common_steps, vec_capacity, slice_index, ℕ, ◌+◌, ◌++◌, List, length, map, refl, ap}
 use Rattle.rx_spec.proofs.Prelude.{sym, ◌∙◌, subst, arith, flat_map, Tested, cut, holds_before, row_at, target}
-use Rattle.rx_stepper.proofs.Prelude.{AreGroups, NFA, Reads, Steps, facts_with, going_by, meaning, rows_in}
+use Rattle.rx_stepper.proofs.Prelude.{AreGroups, NFA, Reads, ColumnSteps, facts_with, going_by, meaning, rows_in}
 use Rattle.rx_stepper.proofs.Decisions.{closed_plain}
 use Rattle.rx_stepper.proofs.KeyLaws.{closed_few, rows_tested}
 use Rattle.rx_stepper.proofs.Results.{on_ok-both}
 use Rattle.rx_stepper.proofs.StepLaws.{GroupDone, done_passed, done_more, all_done, few_told, group_goes, plain_steps}
 use Rattle.rx_stepper.proofs.GroupLoop.{Finding, Between, stand}
-use Rattle.rx_stepper.proofs.steps.Steps.find.Goals as goal
-use Rattle.rx_stepper.proofs.steps.Steps.find.Goals.{then-has+in_ok-add_group, else-has}
+use Rattle.rx_stepper.proofs.steps.ColumnSteps.find.Goals as goal
+use Rattle.rx_stepper.proofs.steps.ColumnSteps.find.Goals.{then-has+in_ok-add_group, else-has}
 
 pub loop-group-init : goal.loop-group-init
 loop-group-init c = grind (arith, common_steps)
@@ -42,8 +42,8 @@ loop-group-preserved c =
                 let old = sym before.nfa in
                 let reads_old = subst (λ m. Reads (meaning m).rows units columns spans) old reads in
                 let groups_old = subst (λ m. AreGroups (meaning m) units gs) old groups in
-                let t = λ (s : Steps). map (λ v. v.items) s.targets.items in
-                let l = λ (s : Steps). map (λ v. v.items) s.matches.items in
+                let t = λ (s : ColumnSteps). map (λ v. v.items) s.targets.items in
+                let l = λ (s : ColumnSteps). map (λ v. v.items) s.matches.items in
                 let self = c.loop-group.self in
                 let new = w.add_group.new.self in
                 let state = rows_in f.rows f.last in

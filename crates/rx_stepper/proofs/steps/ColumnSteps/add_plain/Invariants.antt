@@ -1,6 +1,6 @@
 use Rattle.rx_stepper.proofs.Prelude.{matches_of, meaning}
 use Rattle.rx_stepper.proofs.GroupLoop.{PlainBetween}
-use Rattle.rx_stepper.proofs.steps.Steps.add_plain.Given as goal
+use Rattle.rx_stepper.proofs.steps.ColumnSteps.add_plain.Given as goal
 
 abbrev pub invariant-loop-group : goal.invariant-loop-group
 invariant-loop-group l =

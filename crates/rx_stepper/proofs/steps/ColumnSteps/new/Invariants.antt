@@ -1,6 +1,6 @@
 use Rattle.rx_spec.proofs.Prelude.{◌≡◌, length, map}
 use Rattle.rx_stepper.proofs.Prelude.{AreEmpty}
-use Rattle.rx_stepper.proofs.steps.Steps.new.Given as goal
+use Rattle.rx_stepper.proofs.steps.ColumnSteps.new.Given as goal
 
 abbrev pub invariant-loop-group : goal.invariant-loop-group
 invariant-loop-group l = record {

@@ -4,7 +4,7 @@ use Rattle.rx_stepper.proofs.Prelude.{facts_with, going_by, list_at, meaning, on
 use Rattle.rx_stepper.proofs.EmptyLists.{set_here, set_other, written_back}
 use Rattle.rx_stepper.proofs.Results.{on_ok-map}
 use Rattle.rx_stepper.proofs.StepLaws.{few_told}
-use Rattle.rx_stepper.proofs.steps.Steps.add_group.Goals as goal
+use Rattle.rx_stepper.proofs.steps.ColumnSteps.add_group.Goals as goal
 
 going_is : (c : goal.After-self-3-1) → c.cut-going.result.now
     ≡ going_by (meaning c.args.closures.now.nfa.now) c.args.kind c.args.last (facts_with c.args.group) c.args.rows.now
