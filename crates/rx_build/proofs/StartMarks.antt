@@ -1,23 +1,20 @@
 -- Tables in which no row is accelerated, and those in which no start row is marked any more.
 use Rattle.rx_spec.proofs.Prelude.{common_steps, ◌≡◌, ◌≢◌, ℕ, zero, suc, ◌+◌, ◌*◌, ◌/◌, ◌<◌, ◌≤◌, ◌==◌, ◌&&◌, ◌||◌, ◌⊎◌}
 use Rattle.rx_spec.proofs.Prelude.{not, nat_le, ◌^◌, rules, Bool, true, false, length, refl, sym, ap, ap₂, subst, ◌∙◌}
-use Rattle.rx_spec.proofs.Prelude.{⊎_elim, inl, inr, arith, and_parts, cases_eq, cases_lt, eq-eqb, leb-true, true≢false}
-use Rattle.rx_spec.proofs.Prelude.{ne_eqb, and-false, mul-le, pow_pos, is_match}
+use Rattle.rx_spec.proofs.Prelude.{⊎_elim, inl, inr, arith, and_parts, cases_lt, eq-eqb, leb-true, true≢false}
+use Rattle.rx_spec.proofs.Prelude.{ne_eqb, mul-le, pow_pos, is_match}
 use Rattle.rx_dense.specs.declared.special.Special.{Special}
 use Rattle.rx_dense.specs.Layouts.{Layout, IsRowId, row_count, stride, table_of}
 use Rattle.rx_dense.specs.Specials.{greatest, is_in_range, is_match_id}
 use Rattle.rx_dense.proofs.Rows.{quotient, row-below}
 use Rattle.rx_dense.proofs.Shaped.{id_kept}
 use Rattle.rx_order.specs.RowOrder.{IsInOrder, IsPlain, IsRange, accel_count, is_start_row}
-use Rattle.rx_order.proofs.KindNumbers.{at_most, high_kind, kind_high, label_match, over}
+use Rattle.rx_order.proofs.KindNumbers.{at_most, high_kind, kind_high, label_match, none_in_range, over}
 
 -- ---- no row is accelerated
 
-empty_range : (id : ℕ) → is_in_range 0 0 id ≡ false
-empty_range id = grind (arith, common_steps, over, and-false, cases_eq)
-
 pub none_accelerated : (l : Layout) → IsPlain l → (row : ℕ) → (table_of l).is_accelerated row ≡ false
-none_accelerated l plain row = grind (arith, common_steps, empty_range)
+none_accelerated l plain row = grind (arith, common_steps, none_in_range)
 
 pub none_counted : (l : Layout) → IsPlain l → length l.accels ≡ accel_count l
 none_counted l plain = grind (arith, common_steps, eq-eqb)
@@ -155,7 +152,7 @@ module _ (l : Layout) (order : IsInOrder l) (plain : IsPlain l) where
           ∙ sym (behind (is_match (table_of l) row) high ∙ e)
 
   pub unmarked_row : (row : ℕ) → (table_of (unmarked l)).is_start row ≡ false
-  unmarked_row row = empty_range (row * stride l)
+  unmarked_row row = none_in_range (row * stride l)
 
   pub unmarked_order : IsInOrder (unmarked l)
   unmarked_order =

@@ -5,24 +5,18 @@ use Rattle.rx_spec.proofs.Prelude.{if◌then◌else◌, concat, list_all, and_pa
 use Rattle.rx_spec.proofs.Prelude.{ne_eqb, and_from, nil_from_length, Contains-get_or, get_or-map-range_with_len}
 use Rattle.rx_spec.proofs.Prelude.{length-map-range_with_len, Label, IsSound}
 use Rattle.std.proofs.lemmas.List.Folds.{list_all-append}
-use Rattle.rx_dense.specs.Builder.{slices_from}
 use Rattle.rx_dense.specs.Layouts.{AreLists, IsShaped, Layout, label_of_id, patterns_at, stride, table_of}
+use Rattle.rx_dense.proofs.PatternLists.{length-slices_from}
 use Rattle.rx_dense.proofs.RowKinds.{patterns_len}
 use Rattle.rx_order.specs.RowOrder.{AreJoined, IsRange, match_count, match_lists}
 use Rattle.rx_order.proofs.KindNumbers.{at_most}
 use Rattle.rx_dense_image.specs.PatternLists.{AreReadLists}
 use Rattle.rx_dense_image.specs.Closing.{is_list, lists_stand}
 use Rattle.rx_dense_image.specs.Images.{pattern_lists_of}
-use Rattle.rx_image_parts.proofs.EachBelow.{each_at}
-use Rattle.rx_image_parts.proofs.EachBelow.{all_of}
+use Rattle.rx_image_parts.proofs.EachBelow.{each_at, all_of}
 use Rattle.rx_image_parts.proofs.ReadAgain.{words_below}
 use Rattle.rx_built_images.proofs.Places.{all_places}
 use Rattle.rx_built_images.proofs.RangeRows.{IsRowAt, range_at}
-
--- two words for each list
-slices_len : (start : ℕ) (lists : List (List ℕ)) → length (slices_from start lists) ≡ 2 * length lists
-slices_len start [] = refl
-slices_len start (list ∷ lists) = omega (arith, slices_len (start + length list) lists)
 
 -- the label of a match row
 matches_where : (m q : Bool) (ks : List ℕ) → m ≡ true
@@ -36,7 +30,7 @@ module _ (l : Layout) (shaped : IsShaped l) (sound : IsSound (table_of l)) (matc
   lists = shaped.lists
 
   count : length l.slices ≡ 2 * match_count l
-  count = grind (arith, common_steps, slices_len, length-map-range_with_len)
+  count = grind (arith, common_steps, length-slices_from, length-map-range_with_len)
 
   row_at : (i : ℕ) → i < match_count l
       → IsRowAt l l.special.min_match l.special.max_match i (l.special.min_match / stride l + i)

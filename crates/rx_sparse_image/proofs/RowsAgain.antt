@@ -9,6 +9,7 @@ use Rattle.rx_wire.specs.Kinds.{Kind}
 use Rattle.rx_wire.proofs.Fields.{bytes_again, u16_again, u32_again}
 use Rattle.rx_dense.specs.Specials.{is_accel_id}
 use Rattle.rx_image_parts.proofs.EachBelow.{all_of}
+use Rattle.rx_image_parts.proofs.ReadAgain.{regrouped}
 use Rattle.rx_wire.proofs.Words.{length-words, word_alone}
 use Rattle.rx_sparse.specs.Rows.{Row, ends_in, ends_text, head_number, is_some_list, next_ids, no_range, no_row}
 use Rattle.rx_sparse.specs.Rows.{next_ids_in, offsets_from, patterns_text, range_in, row_in, row_len, row_text}
@@ -22,7 +23,7 @@ use Rattle.rx_sparse_image.specs.Walks.{after_patterns_if, ends_at, head_at, is_
 use Rattle.rx_sparse_image.specs.Walks.{next_ids_at, range_count, row_at, rows_from, tested, tested_next}
 use Rattle.rx_sparse_image.proofs.PassedRows.{none_left, row_first}
 use Rattle.rx_sparse_image.proofs.Passes.{next_ids_pass, patterns_pass}
-use Rattle.rx_sparse_image.proofs.TestedRows.{fits_tested, regroup}
+use Rattle.rx_sparse_image.proofs.TestedRows.{fits_tested}
 
 -- ---- tests that are passed
 
@@ -194,7 +195,7 @@ module _ (b : Bounds) (at : ℕ) (row : Row) (is : IsTestedRow b at row) where
       let t1 : List ℕ = ends ++ t2 in
       let bytes : List ℕ = row_text order row ++ rest in
       let parts : bytes ≡ field order w16 n ++ t1 =
-      regroup (field order w16 n) ends ids (patterns_text order row.patterns) needles rest in
+      regrouped (field order w16 n) ends ids (patterns_text order row.patterns) needles rest in
       let next : ℕ = b.len - length rest in
       let steps : AreSteps b at bytes = record {
         head = (n, t1);

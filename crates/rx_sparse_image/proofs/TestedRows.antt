@@ -1,7 +1,7 @@
 -- A row that passed its tests stands whole at the front of its bytes, and what the tests say is true of it.
 use Rattle.rx_spec.proofs.Prelude.{common_steps, [], ◌≡◌, ℕ, ◌+◌, ◌-◌, ◌*◌, ◌/◌, ◌%◌, ◌^◌, ◌<◌, ◌≤◌, Bool, true, false}
 use Rattle.rx_spec.proofs.Prelude.{◌&&◌, ◌||◌, ◌==◌, cond, leb, ltb, eqb, List, ◌∷◌, ◌++◌, length, take, drop, map}
-use Rattle.rx_spec.proofs.Prelude.{get_or, slice_index, Ok, refl, ap, ap₂, sym, ◌∙◌, subst, append_assoc, length-drop}
+use Rattle.rx_spec.proofs.Prelude.{get_or, slice_index, Ok, refl, ap, ap₂, sym, ◌∙◌, subst, length-drop}
 use Rattle.rx_spec.proofs.Prelude.{arith, ⊎_elim, list_all, range_with_len, w16, w32, take-add, and_parts, eqb-true}
 use Rattle.rx_spec.proofs.Prelude.{leb-false, leb-true, ltb-true, or_cases, drop_at, length-append, length-take-le}
 use Rattle.rx_spec.proofs.Prelude.{All-drop, All-take, get_or-map-range_with_len, length-map-range_with_len, AreBytes}
@@ -10,6 +10,7 @@ use Rattle.rx_wire.specs.declared.order.Order.{Order}
 use Rattle.rx_wire.specs.Fields.{field}
 use Rattle.rx_dense.specs.Specials.{is_accel_id, is_match_id}
 use Rattle.rx_image_parts.proofs.EachBelow.{all_at}
+use Rattle.rx_image_parts.proofs.ReadAgain.{regrouped}
 use Rattle.rx_sparse.specs.Parts.{FitsBytes}
 use Rattle.rx_sparse.specs.Rows.{Row, behind_ends, count_in, ends_in, ends_text, head_number, is_match_in, is_some_list}
 use Rattle.rx_sparse.specs.Rows.{next_ids, next_ids_in, no_range, patterns_in, patterns_len, patterns_text, range_in}
@@ -66,10 +67,6 @@ patterns_few order true bytes are =
     )
 
 -- ---- a row
-
--- parts of a row, and what follows it
-pub regroup : (h e i p n rest : List ℕ) → (h ++ (e ++ (i ++ (p ++ n)))) ++ rest ≡ h ++ (e ++ (i ++ (p ++ (n ++ rest))))
-regroup h e i p n rest = simp append_assoc refl
 
 -- a count, and as many bytes behind it
 counted : (n : ℕ) (xs : List ℕ) → 1 ≤ length xs → n ≡ slice_index xs 0 → n ∷ take n (drop 1 xs) ≡ take (1 + n) xs
@@ -193,7 +190,7 @@ module _ (b : Bounds) (at : ℕ) (bytes rest : List ℕ) (are : AreBytes bytes)
       ≡ drop 2 bytes =
       ap₂ join ends_text_is a3 ∙ take-append-drop (2 * count) (drop 2 bytes) in
       sym (
-      regroup (field order w16 (head_number row)) (ends_text row.ranges) (words_text order (next_ids row))
+      regrouped (field order w16 (head_number row)) (ends_text row.ranges) (words_text order (next_ids row))
       (patterns_text order row.patterns) needles rest
       ∙ ap₂ join head_text_is a4
       ∙ take-append-drop 2 bytes
