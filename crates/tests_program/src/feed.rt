@@ -19,17 +19,11 @@ const FORMS: [Form; 2] = [Form::Dense, Form::Sparse];
 /// The most bytes that a read gives.
 const STEPS: [usize; 3] = [1, 3, 4096];
 
-/// The image of the table for all matches of some patterns. If `quits` is set, `z` is a quit byte.
-fn image(alloc: Global, form: Form, patterns: &str, quits: bool) -> Result<Vec<u8>, Fail> {
-    let exprs = read(alloc, patterns)?;
-    let mut config = Config::new().match_kind(MatchKind::All);
-    if quits {
-        if let Ok(changed) = Config::new().match_kind(MatchKind::All).quit(b'z', true) {
-            config = changed;
-        }
-    }
+/// The image of the table for all matches of three patterns.
+fn image(alloc: Global, form: Form) -> Result<Vec<u8>, Fail> {
+    let exprs = read(alloc, "Samwise Sam |")?;
     let mut builder = Builder::new();
-    builder.configure(config);
+    builder.configure(Config::new().match_kind(MatchKind::All));
     builder.thompson(thompson::Config::new().utf8(false));
     match form {
         Form::Dense => Ok(
@@ -98,109 +92,6 @@ fn joined(alloc: Global, image: &[u8], text: &[u8]) -> Result<Vec<u8>, Fail> {
     Ok(bytes)
 }
 
-// ---- texts of a few letters
-
-/// The next number of a pseudo-random sequence.
-fn next(number: u32) -> u32 {
-    number.wrapping_mul(1_664_525).wrapping_add(1_013_904_223)
-}
-
-/// The letter of a number: mostly `a` or `b`, sometimes `c`, rarely `z`.
-fn letter(number: u32) -> u8 {
-    match number >> 27 {
-        0..=12 => b'a',
-        13..=25 => b'b',
-        26..=30 => b'c',
-        _ => b'z',
-    }
-}
-
-/// A text of this many letters.
-fn text(alloc: Global, seed: u32, len: usize) -> Result<Vec<u8>, Fail> {
-    let mut text = Vec::new(alloc);
-    let mut number = next(seed);
-    for _ in 0..len {
-        number = next(number);
-        text.push(letter(number))?;
-    }
-    Ok(text)
-}
-
-/// Adds the lines of the matches of `ab` and `b` that end at an offset after two letters. The one that began first
-/// comes first.
-fn push_matches(
-    alloc: Global,
-    lines: &mut Vec<u8>,
-    at: usize,
-    letters: (u8, u8),
-) -> Result<(), Fail> {
-    if letters.1 != b'b' {
-        return Ok(());
-    }
-    if letters.0 == b'a' {
-        lines.extend_from_slice(format!(in alloc; "match 1 {at}\n")?.as_bytes())?;
-    }
-    lines.extend_from_slice(format!(in alloc; "match 0 {at}\n")?.as_bytes())?;
-    Ok(())
-}
-
-/// The status and the lines of a text, found letter by letter. The letter after a match, or the end, completes the
-/// match.
-fn wanted(alloc: Global, text: &[u8]) -> Result<(u8, Vec<u8>), Fail> {
-    let mut lines = Vec::new(alloc);
-    let mut letters = (b' ', b' ');
-    for (at, byte) in text.iter().enumerate() {
-        if *byte == b'z' {
-            lines.extend_from_slice(format!(in alloc; "quit 7a {at}\n")?.as_bytes())?;
-            return Ok((4, lines));
-        }
-        push_matches(alloc, &mut lines, at, letters)?;
-        letters = (letters.1, *byte);
-    }
-    let len = text.len();
-    push_matches(alloc, &mut lines, len, letters)?;
-    lines.extend_from_slice(format!(in alloc; "end {len}\n")?.as_bytes())?;
-    Ok((0, lines))
-}
-
-/// Feeds a text in pieces of each length.
-fn feed_text(
-    rt: &impl Abort,
-    alloc: Global,
-    form: Form,
-    image: &[u8],
-    text: &[u8],
-) -> Result<(), Fail> {
-    let (status, lines) = wanted(alloc, text)?;
-    let bytes = joined(alloc, image, text)?;
-    for most_read in STEPS {
-        let outside = Outside { most_read, ..PLAIN };
-        compare(
-            rt,
-            alloc,
-            (form, Anchored::No, image.len()),
-            &bytes,
-            outside,
-            Ok(status),
-            &lines,
-        )?;
-    }
-    Ok(())
-}
-
-#[test]
-fn texts_are_fed_in_pieces(rt: HostRuntime) -> Result<(), Fail> {
-    let alloc = rt.alloc();
-    for form in FORMS {
-        let image = image(alloc, form, "b ab", true)?;
-        for seed in 0..40u32 {
-            let text = text(alloc, seed, seed as usize)?;
-            feed_text(&rt, alloc, form, &image, &text)?;
-        }
-    }
-    Ok(())
-}
-
 // ---- a text of two matches
 
 const TEXT: &[u8] = b"Samwise";
@@ -209,16 +100,11 @@ const LINES: &[u8] = b"match 0 3\nmatch 0 7\nend 7\n";
 
 const FIRST_LINE: &[u8] = b"match 0 3\n";
 
-/// The image of the patterns of that text.
-fn sam(alloc: Global, form: Form) -> Result<Vec<u8>, Fail> {
-    image(alloc, form, "Samwise Sam |", false)
-}
-
 #[test]
 fn lines_come_in_order(rt: HostRuntime) -> Result<(), Fail> {
     let alloc = rt.alloc();
     for form in FORMS {
-        let image = sam(alloc, form)?;
+        let image = image(alloc, form)?;
         let bytes = joined(alloc, &image, TEXT)?;
         for most_read in STEPS {
             let outside = Outside { most_read, ..PLAIN };
@@ -255,7 +141,7 @@ fn fail_reads(
     text_reads: u64,
 ) -> Result<(), Fail> {
     assert!(rt; 0 < most_read);
-    let image = sam(alloc, form)?;
+    let image = image(alloc, form)?;
     let bytes = joined(alloc, &image, TEXT)?;
     let image_reads = image.len().div_ceil(most_read) as u64;
     for count in 0..text_reads {
@@ -299,7 +185,7 @@ fn reads_of_a_text_may_fail(rt: HostRuntime) -> Result<(), Fail> {
 fn reads_of_an_image_may_fail(rt: HostRuntime) -> Result<(), Fail> {
     let alloc = rt.alloc();
     for form in FORMS {
-        let image = sam(alloc, form)?;
+        let image = image(alloc, form)?;
         let bytes = joined(alloc, &image, TEXT)?;
         let most_read = 64;
         for failing_read in 1..=image.len().div_ceil(most_read) as u64 {
@@ -329,7 +215,7 @@ const WRITTEN: [usize; 10] = [0, 3, 6, 9, 10, 13, 16, 19, 20, 23];
 fn writes_may_fail(rt: HostRuntime) -> Result<(), Fail> {
     let alloc = rt.alloc();
     for form in FORMS {
-        let image = sam(alloc, form)?;
+        let image = image(alloc, form)?;
         let bytes = joined(alloc, &image, TEXT)?;
         let mut failing_write = 0u64;
         for written in WRITTEN {
@@ -360,7 +246,7 @@ fn writes_may_fail(rt: HostRuntime) -> Result<(), Fail> {
 fn sinks_may_be_full(rt: HostRuntime) -> Result<(), Fail> {
     let alloc = rt.alloc();
     for form in FORMS {
-        let image = sam(alloc, form)?;
+        let image = image(alloc, form)?;
         let bytes = joined(alloc, &image, TEXT)?;
         for room in 0..LINES.len() {
             let outside = Outside {
@@ -389,7 +275,7 @@ fn sinks_may_be_full(rt: HostRuntime) -> Result<(), Fail> {
 fn images_and_modes_are_refused_before_the_text(rt: HostRuntime) -> Result<(), Fail> {
     let alloc = rt.alloc();
     for form in FORMS {
-        let image = sam(alloc, form)?;
+        let image = image(alloc, form)?;
         let bytes = joined(alloc, &image, TEXT)?;
         let mode = Anchored::Pattern(PatternID::ZERO);
         compare(
@@ -429,7 +315,7 @@ fn images_and_modes_are_refused_before_the_text(rt: HostRuntime) -> Result<(), F
 fn an_image_may_end_the_source(rt: HostRuntime) -> Result<(), Fail> {
     let alloc = rt.alloc();
     for form in FORMS {
-        let image = sam(alloc, form)?;
+        let image = image(alloc, form)?;
         compare(
             &rt,
             alloc,

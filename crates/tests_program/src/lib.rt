@@ -8,8 +8,10 @@
 mod callers;
 pub mod examples;
 #[cfg(test)]
+mod faults;
+#[cfg(test)]
 mod feed;
 #[cfg(test)]
-mod program;
+mod pairs;
 #[cfg(test)]
-mod regex;
+mod program;

@@ -3,7 +3,6 @@
 ghost use Rattle.std.specs.Prelude.{IfOk};
 ghost use Rattle.rx_dense.specs.Facts.{IsSoundLayout};
 
-use crate::regex::shown;
 use rx_base::{Anchored, Input, MatchKind, PatternID, PatternSet, StartKind};
 use rx_build::dense;
 use rx_dense::OwnedDFA;
@@ -15,9 +14,15 @@ use std::process::Abort;
 use std::test::Fail;
 use tests_notation::read;
 
-/// All matches in a haystack as text, and the error that ended the search, if there was one.
+/// All matches in a haystack as text.
 fn matches<A: Automaton>(alloc: Global, regex: &Regex<A>, haystack: &[u8]) -> Result<String, Fail> {
-    shown(alloc, regex.find_iter(&Input::new(haystack)))
+    let mut text = String::new(alloc);
+    for found in regex.find_iter(&Input::new(haystack)) {
+        let found = found?;
+        let (pattern, start, end) = (found.pattern().as_u32(), found.start(), found.end());
+        text.push_str(&format!(in alloc; "{pattern} {start} {end};")?)?;
+    }
+    Ok(text)
 }
 
 #[test]
