@@ -60,12 +60,19 @@ fn pieces_have_the_matches_of_the_text(rt: HostRuntime) -> Result<(), Fail> {
 }
 
 #[test]
-fn sparse_images_find_and_report_ends(rt: HostRuntime) -> Result<(), Fail> {
+fn sparse_tables_report_ends(rt: HostRuntime) -> Result<(), Fail> {
     let alloc = rt.alloc();
     let table = sparse_build::smallest(alloc, &patterns(alloc)?)?;
     assert!(&rt; matches!(search::first_end(&table, b"a 12345"), Ok(Some(5))));
     let found = search::patterns_in(alloc, &table, b"a 12345")?;
     assert!(&rt; found.is_some_and(|set| set.len() == 1));
+    Ok(())
+}
+
+#[test]
+fn sparse_images_are_searched(rt: HostRuntime) -> Result<(), Fail> {
+    let alloc = rt.alloc();
+    let table = sparse_build::smallest(alloc, &patterns(alloc)?)?;
     let saved = sparse_image::save(alloc, &table)?;
     assert!(&rt; matches!(sparse_image::is_suspicious(alloc, &saved, b"a1"), Ok(true)));
     assert!(&rt; matches!(sparse_image::is_suspicious(alloc, &saved, b"ab"), Ok(false)));
@@ -74,20 +81,28 @@ fn sparse_images_find_and_report_ends(rt: HostRuntime) -> Result<(), Fail> {
 }
 
 #[test]
+fn tables_of_a_plan_find_a_match(rt: HostRuntime) -> Result<(), Fail> {
+    let alloc = rt.alloc();
+    let built = regex::build(alloc, &patterns(alloc)?)?;
+    let found = regex::first(&built, &base::input_at(b"1 warn: 12345", 8))?;
+    assert!(&rt; found.is_some_and(|found| found.start() == 8 && found.end() == 11));
+    Ok(())
+}
+
+#[test]
+fn images_of_pairs_find_a_match(rt: HostRuntime) -> Result<(), Fail> {
+    let alloc = rt.alloc();
+    let saved = regex::build_image(alloc, &patterns(alloc)?)?;
+    let found = image::first_by_image(alloc, &saved, b"1 warn: 12345")??;
+    assert!(&rt; found.is_some_and(|found| found.start() == 0 && found.end() == 1));
+    Ok(())
+}
+
+#[test]
 fn pairs_find_matches(rt: HostRuntime) -> Result<(), Fail> {
     let alloc = rt.alloc();
-    let patterns = patterns(alloc)?;
-    let built = regex::build(alloc, &patterns)?;
-    let text = b"1 warn: 12345";
-    let found = regex::first(&built, &base::input_at(text, 8))?;
-    let found = found.map(|found| (found.start(), found.end()));
-    assert!(&rt; found == Some((8, 11)));
-    let saved = regex::build_image(alloc, &patterns)?;
-    let found = image::first_by_image(alloc, &saved, text)??;
-    let found = found.map(|found| (found.start(), found.end()));
-    assert!(&rt; found == Some((0, 1)));
-    let pair = Regex::<OwnedDFA>::new_many(alloc, &patterns)?;
-    assert!(&rt; matches!(pair::count(&pair, text), Ok(3)));
+    let pair = Regex::<OwnedDFA>::new_many(alloc, &patterns(alloc)?)?;
+    assert!(&rt; matches!(pair::count(&pair, b"1 warn: 12345"), Ok(3)));
     assert!(&rt; matches!(pair.find(&Input::new(b"x")), Ok(None)));
     Ok(())
 }

@@ -25,25 +25,40 @@ fn matches<A: Automaton>(alloc: Global, regex: &Regex<A>, haystack: &[u8]) -> Re
     Ok(text)
 }
 
+/// Compares the matches of the empty expression in a character of three bytes.
+fn compare<A: Automaton>(
+    rt: &impl Abort,
+    alloc: Global,
+    regex: &Regex<A>,
+    want: &str,
+) -> Result<(), Fail> {
+    let told = matches(alloc, regex, b"\xe2\x98\x83")?;
+    assert!(rt; told.as_str() == want, "{told}");
+    Ok(())
+}
+
 #[test]
 fn a_new_pair_tells_whole_characters(rt: HostRuntime) -> Result<(), Fail> {
     let alloc = rt.alloc();
     let exprs = read(alloc, "_")?;
+    let want = "0 0 0;0 3 3;";
     let regex = Regex::<OwnedDFA>::new_many(alloc, &exprs)?;
-    let told = matches(alloc, &regex, b"\xe2\x98\x83")?;
-    assert!(rt; told.as_str() == "0 0 0;0 3 3;", "{told}");
-    let sparse = Regex::<OwnedDFA>::new_many_sparse(alloc, &exprs)?;
-    let told = matches(alloc, &sparse, b"\xe2\x98\x83")?;
-    assert!(rt; told.as_str() == "0 0 0;0 3 3;", "{told}");
+    compare(&rt, alloc, &regex, want)?;
+    let regex = Regex::<OwnedDFA>::new_many_sparse(alloc, &exprs)?;
+    compare(&rt, alloc, &regex, want)
+}
+
+#[test]
+fn without_utf8_mode_a_pair_tells_each_byte(rt: HostRuntime) -> Result<(), Fail> {
+    let alloc = rt.alloc();
+    let exprs = read(alloc, "_")?;
+    let want = "0 0 0;0 1 1;0 2 2;0 3 3;";
     let mut builder = Builder::new();
     builder.thompson(thompson::Config::new().utf8(false));
     let regex = builder.build_many(alloc, &exprs)?;
-    let told = matches(alloc, &regex, b"\xe2\x98\x83")?;
-    assert!(rt; told.as_str() == "0 0 0;0 1 1;0 2 2;0 3 3;", "{told}");
-    let sparse = builder.build_many_sparse(alloc, &exprs)?;
-    let told = matches(alloc, &sparse, b"\xe2\x98\x83")?;
-    assert!(rt; told.as_str() == "0 0 0;0 1 1;0 2 2;0 3 3;", "{told}");
-    Ok(())
+    compare(&rt, alloc, &regex, want)?;
+    let regex = builder.build_many_sparse(alloc, &exprs)?;
+    compare(&rt, alloc, &regex, want)
 }
 
 #[test]
