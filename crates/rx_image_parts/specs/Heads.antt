@@ -27,11 +27,14 @@ flags_word flags = flag flags.has_empty 1 + flag flags.is_utf8 2 + flag flags.is
 
 -- ---- the head
 
+-- what follows a label
+abbrev pub behind_label : Order → Flags → List ℕ
+behind_label order flags =
+    field order w32 endianness_word
+    ++ (field order w32 version ++ (field order w32 0 ++ field order w32 (flags_word flags)))
+
 abbrev pub head_text : Order → List ℕ → Flags → List ℕ
-head_text order label flags =
-    label_text label
-    ++ (field order w32 endianness_word
-    ++ (field order w32 version ++ (field order w32 0 ++ field order w32 (flags_word flags))))
+head_text order label flags = label_text label ++ behind_label order flags
 
 -- The flags, and the order of what follows.
 unfoldable pub head_at : List ℕ → List ℕ → Result ((Flags × Order) × List ℕ) Kind

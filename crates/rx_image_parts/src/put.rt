@@ -2,12 +2,11 @@
 //!
 //! Each `put` function writes a part at an index and returns the index after it.
 
-ghost use Rattle.std.specs.Prelude.{◌≡◌, ℕ, ◌+◌, ◌^◌, ◌<◌, ◌≤◌, List, length};
+ghost use Rattle.std.specs.Prelude.{◌≡◌, ◌+◌, ◌^◌, ◌<◌, ◌≤◌, ◌++◌, length};
 ghost use Rattle.std.specs.Int.{w32, w128};
 ghost use Rattle.rx_wire.specs.Fields.{field};
-ghost use Rattle.rx_wire.specs.Heads.{label_text};
 ghost use Rattle.rx_dense.specs.Layouts.{context_number};
-ghost use Rattle.rx_image_parts.specs.Heads.{flag, flags_word, head_text};
+ghost use Rattle.rx_image_parts.specs.Heads.{behind_label, flag, flags_word};
 ghost use Rattle.rx_image_parts.specs.StartTables.{kind_number, number_or_none};
 ghost use Rattle.rx_image_parts.specs.QuitBytes.{quit_text};
 ghost use Rattle.rx_image_parts.specs.SpecialIds.{special_text};
@@ -74,8 +73,7 @@ pub fn put_head<E: Endian>(label: &[u8], flags: &Flags, dst: &mut [u8], at: usiz
     requires fits { at + 48 ≤ length dst.old }
     ensures len { length dst.new ≡ length dst.old }
     ensures place { result ≡ at + 48 }
-    ensures put { (name : List ℕ) → label.now ≡ label_text name
-        → IsPut (head_text E.order name flags.now) dst.old dst.new at result }
+    ensures put { IsPut (label.now ++ behind_label E.order flags.now) dst.old dst.new at result }
 {
     let label = put_plain(label, dst, at);
     let order = put_word::<E>(ENDIANNESS, dst, label);

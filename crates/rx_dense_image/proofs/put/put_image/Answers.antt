@@ -9,8 +9,7 @@ pub returns-clause-put : goal.returns-clause-put
 unfolding text
 returns-clause-put g c =
     and_then
-    (put_same (ap (head_text g.E.Endian.order dense_label) c.flags.ensures)
-    (c.put_head-head.ensures.put dense_label refl))
+    (put_same (ap (head_text g.E.Endian.order dense_label) c.flags.ensures) c.put_head-head.ensures.put)
     (and_then c.put_rows-rows.ensures.put
     (and_then c.put_start_table-starts.ensures.put
     (and_then c.put_pattern_lists-lists.ensures.put c.put_marks.ensures.put)))

@@ -11,7 +11,7 @@ unfolding text
 returns-clause-put g c =
     let order = g.E.Endian.order in
     and_then
-    (put_same (ap (head_text order sparse_label) c.flags.ensures) (c.put_head-head.ensures.put sparse_label refl))
+    (put_same (ap (head_text order sparse_label) c.flags.ensures) c.put_head-head.ensures.put)
     (and_then c.put_row_bytes-rows.ensures.put
     (and_then c.put_start_table-starts.ensures.put
     (and_then (put_same (ap (special_text order) c.special.ensures) c.put_special-special.ensures.put)
