@@ -6,10 +6,10 @@ use Rattle.rx_spec.specs.declared.Form.{Form}
 use Rattle.rx_dense.specs.Layouts.{Layout}
 use Rattle.rx_build_error.specs.Refusals.{IsRefused, TableRefused}
 use Rattle.rx_build_error.specs.declared.BuildErrorKind.{BuildErrorKind}
-use Rattle.rx_expr.specs.declared.thompson.build_error.BuildError as nfa
-use Rattle.rx_determinize.specs.Determinized as determinize
-use Rattle.rx_determinize.specs.Determinized.{IsBegunWith, IsDeterminized, build_in}
+use Rattle.rx_determinize.specs.Begun.{IsBegunWith, build_in, limits_of as own_limits}
+use Rattle.rx_determinize.specs.declared.settled.Settled as determinize
 use Rattle.rx_build.specs.Built.{begun, build_of, limits_of, settings_with}
+use Rattle.rx_build.specs.Determinized.{IsDeterminized}
 use Rattle.rx_build.specs.Making.{IsMade, determinized}
 use Rattle.rx_build.specs.Settings.{Settled}
 use Rattle.rx_build.proofs.Stages.{determinized_made}
@@ -34,11 +34,11 @@ pub not_sparse : Form.Dense ≡ Form.Sparse → ⊥
 not_sparse e = cc
 
 fits_alike : (s : Settled) (quit : ℕ) (b : Build)
-    → BuildFits (determinize.limits_of (settings_with s quit) s.byte_classes) b → BuildFits (limits_of s) b
+    → BuildFits (own_limits (settings_with s quit) s.byte_classes) b → BuildFits (limits_of s) b
 fits_alike s quit b fits = grind (arith, common_steps, not_sparse)
 
 table_refused_alike : (s : Settled) (quit : ℕ) (b : Build) (cause : Cause)
-    → TableRefused (determinize.limits_of (settings_with s quit) s.byte_classes) b cause
+    → TableRefused (own_limits (settings_with s quit) s.byte_classes) b cause
     → TableRefused (limits_of s) b cause
 table_refused_alike s quit b (Cause.NFA cause) r = r
 table_refused_alike s quit b (Cause.DFA BuildCause.Unsupported) r = r
@@ -59,10 +59,10 @@ refused_as P Q f (BuildErrorKind.DeterminizeExceededSizeLimit limit) r = f _ r
 refused_as P Q f BuildErrorKind.Memory r = r
 
 refused_alike : (s : Settled) (quit : ℕ) (b c : Build) (kind : BuildErrorKind) → b ≡ c
-    → IsRefused (TableRefused (determinize.limits_of (settings_with s quit) s.byte_classes) b) kind
+    → IsRefused (TableRefused (own_limits (settings_with s quit) s.byte_classes) b) kind
     → IsRefused (TableRefused (limits_of s) c) kind
 refused_alike s quit b c kind same r =
-    let own = refused_as (TableRefused (determinize.limits_of (settings_with s quit) s.byte_classes) b)
+    let own = refused_as (TableRefused (own_limits (settings_with s quit) s.byte_classes) b)
     (TableRefused (limits_of s) b) (table_refused_alike s quit b) kind r in
     subst (λ (x : Build). IsRefused (TableRefused (limits_of s) x) kind) same own
 
@@ -94,19 +94,19 @@ module _ {s : Settled} {nfa : Nfa} {settings : determinize.Settled} {l : Layout}
       (subst (λ (k : Layout). IsDeterminized (build_of s nfa) k m) by.layout_is
       (subst (λ (b : Build). IsDeterminized b l m) build_is d))
 
-  pub fits_by : BuildFits (determinize.limits_of settings s.byte_classes) (build_in nfa settings l)
+  pub fits_by : BuildFits (own_limits settings s.byte_classes) (build_in nfa settings l)
       → BuildFits (limits_of s) (build_of s nfa)
   fits_by fits =
       fits_alike s (quit_set nfa s.quit s.unicode_word) (build_of s nfa)
-      (subst (λ (x : determinize.Settled). BuildFits (determinize.limits_of x s.byte_classes) (build_of s nfa))
+      (subst (λ (x : determinize.Settled). BuildFits (own_limits x s.byte_classes) (build_of s nfa))
       by.settings_are
-      (subst (λ (b : Build). BuildFits (determinize.limits_of settings s.byte_classes) b) build_is fits))
+      (subst (λ (b : Build). BuildFits (own_limits settings s.byte_classes) b) build_is fits))
 
   pub refused_by : (kind : BuildErrorKind)
-      → IsRefused (TableRefused (determinize.limits_of settings s.byte_classes) (build_in nfa settings l)) kind
+      → IsRefused (TableRefused (own_limits settings s.byte_classes) (build_in nfa settings l)) kind
       → IsRefused (TableRefused (limits_of s) (build_of s nfa)) kind
   refused_by kind refused =
       refused_alike s (quit_set nfa s.quit s.unicode_word) (build_in nfa settings l) (build_of s nfa) kind build_is
       (subst (λ (x : determinize.Settled).
-      IsRefused (TableRefused (determinize.limits_of x s.byte_classes) (build_in nfa settings l)) kind) by.settings_are
+      IsRefused (TableRefused (own_limits x s.byte_classes) (build_in nfa settings l)) kind) by.settings_are
       refused)

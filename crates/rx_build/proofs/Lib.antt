@@ -8,3 +8,7 @@ pub mod Stages
 pub mod Beginnings
 -- what a built table tells
 pub mod Served
+-- rows at other places
+pub mod PermutedLaws
+-- tables that are put in order
+pub mod DeterminizedLaws

@@ -8,16 +8,16 @@ use Rattle.rx_spec.specs.declared.Start.{Start}
 use Rattle.rx_order.specs.RowOrder.{IsInOrder, IsOrdered, is_marked, is_start_row}
 use Rattle.rx_order.specs.Ordering.{IsAccelerated}
 use Rattle.rx_order.proofs.ExchangedRows.{row_at_place}
-use Rattle.rx_determinize.specs.Determinized.{IsDeterminized}
 use Rattle.rx_minimize.specs.Minimized.{AnyMode, AreReachedRows, IsMinimized}
 use Rattle.rx_meaning.proofs.PowerTables.{power_gives, power_is_reached}
 use Rattle.rx_meaning.proofs.Reduced.{reduced_is_least}
 use Rattle.rx_build.specs.Built.{AreApart, IsBuilt, begun, build_of}
+use Rattle.rx_build.specs.Determinized.{IsDeterminized}
 use Rattle.rx_build.specs.Making.{IsMade, determinized, marked_as, minimized}
 use Rattle.rx_build.specs.Settings.{Settled}
 use Rattle.rx_build.proofs.LeftOut.{joined_left_out, moved_left_out, power_left_out}
 use Rattle.rx_order.proofs.Runs.{HasMoved, apart, permuted_moved, reached, same}
-use Rattle.rx_determinize.proofs.PermutedLaws.{moved_power}
+use Rattle.rx_build.proofs.PermutedLaws.{moved_power}
 use Rattle.rx_build.proofs.StartMarks.{none_accelerated, none_counted, range_kept, unmarked, unmarked_order}
 use Rattle.rx_build.proofs.StartMarks.{unmarked_plain, unmarked_row}
 

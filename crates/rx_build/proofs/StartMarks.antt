@@ -1,11 +1,11 @@
 -- Tables in which no row is accelerated, and those in which no start row is marked any more.
-use Rattle.rx_spec.proofs.Prelude.{common_steps, ◌≡◌, ◌≢◌, ℕ, zero, suc, ◌+◌, ◌*◌, ◌/◌, ◌<◌, ◌≤◌, ◌==◌, ◌&&◌, ◌||◌, ◌⊎◌}
+use Rattle.rx_spec.proofs.Prelude.{common_steps, ◌≡◌, ℕ, zero, suc, ◌+◌, ◌*◌, ◌/◌, ◌<◌, ◌≤◌, ◌==◌, ◌&&◌, ◌||◌}
 use Rattle.rx_spec.proofs.Prelude.{not, nat_le, ◌^◌, rules, Bool, true, false, length, refl, sym, ap, ap₂, subst, ◌∙◌}
 use Rattle.rx_spec.proofs.Prelude.{⊎_elim, inl, inr, arith, and_parts, cases_lt, eq-eqb, leb-true, true≢false}
 use Rattle.rx_spec.proofs.Prelude.{ne_eqb, mul-le, pow_pos, is_match}
 use Rattle.rx_dense.specs.declared.special.Special.{Special}
 use Rattle.rx_dense.specs.Layouts.{Layout, IsRowId, row_count, stride, table_of}
-use Rattle.rx_dense.specs.Specials.{greatest, is_in_range, is_match_id}
+use Rattle.rx_dense.specs.Specials.{greatest, is_match_id}
 use Rattle.rx_dense.proofs.Rows.{quotient, row-below}
 use Rattle.rx_dense.proofs.Shaped.{id_kept}
 use Rattle.rx_order.specs.RowOrder.{IsInOrder, IsPlain, IsRange, accel_count, is_start_row}

@@ -15,8 +15,8 @@ use Rattle.rx_spec.specs.declared.Start.{Start}
 use Rattle.rx_dense.specs.Builder.{initial, HasUniversalStarts, with_universal_starts}
 use Rattle.rx_dense.specs.Layouts.{Layout, row_count, table_of}
 use Rattle.rx_order.specs.RowOrder.{IsInOrder, AreJoined, accel_count, is_start_row, is_skippable}
-use Rattle.rx_determinize.specs.Determinized as determinize
-use Rattle.rx_determinize.specs.Determinized.{classes_of}
+use Rattle.rx_determinize.specs.Begun.{classes_of}
+use Rattle.rx_determinize.specs.declared.settled.Settled as determinize
 use Rattle.rx_minimize.specs.Minimized.{AreReachedRows}
 use Rattle.rx_expr.specs.Compiles.{Fits, wanted_nfa}
 use Rattle.rx_expr.specs.Settings as thompson

@@ -11,9 +11,9 @@
 #![tactic(auto)]
 
 pub mod dense;
+pub mod determinize;
 pub mod laws;
 
 pub use rx_build_error::{BuildError, BuildErrorKind};
-pub use rx_determinize as determinize;
 pub use rx_minimize::Minimizer;
 pub use rx_order::{Remappable, Remapper, accelerate, shuffle};

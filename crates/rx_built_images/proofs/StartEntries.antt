@@ -7,7 +7,7 @@ use Rattle.rx_base.specs.Search.{mode_of}
 use Rattle.rx_dense.specs.declared.special.Special.{Special}
 use Rattle.rx_dense.specs.Specials.{is_match_id, is_quit_id}
 use Rattle.rx_dense.specs.Layouts.{context_number, mode_place, start_entries}
-use Rattle.rx_order.proofs.MarkedRows.{context_at, context_at-number, mode_at, mode_at-place}
+use Rattle.rx_dense.proofs.StartNumbers.{context_at, context_at-number, mode_at, mode_at-place}
 use Rattle.rx_image_parts.specs.StartTables.{IsAtMost}
 use Rattle.rx_image_parts.proofs.IdTables.{start_at}
 use Rattle.rx_built_images.proofs.KindTests.{plain_matches, plain_quits}

@@ -1,5 +1,5 @@
 -- Needles as they are kept in words.
-use Rattle.rx_spec.proofs.Prelude.{common_steps, ◌≡◌, ℕ, ◌+◌, ◌-◌, ◌*◌, ◌/◌, ◌%◌, ◌<◌, List, [], ◌∷◌, ◌++◌, length}
+use Rattle.rx_spec.proofs.Prelude.{common_steps, ◌≡◌, ℕ, ◌+◌, ◌*◌, ◌/◌, ◌%◌, ◌<◌, List, [], ◌∷◌, ◌++◌, length}
 use Rattle.rx_spec.proofs.Prelude.{get_or, slice_index, ap, sym, ◌∙◌, arith, length-append, map, range_with_len}
 use Rattle.rx_spec.proofs.Prelude.{get_or_append_left, length-map-range_with_len, get_or-map-range_with_len}
 use Rattle.rx_spec.proofs.Prelude.{fill_by_all, map-range_with_len_more}

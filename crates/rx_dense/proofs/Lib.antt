@@ -21,3 +21,7 @@ pub mod UniversalStarts
 -- rows, transitions and start entries, as they are handed out one by one, and ranges of classes
 pub mod States
 pub mod Ranges
+-- start entries by their numbers
+pub mod StartNumbers
+-- maps of match rows
+pub mod MatchMaps

@@ -1,6 +1,6 @@
 -- Ranges of classes that lead to one row, as they are handed out one by one.
 use Rattle.rx_spec.proofs.Prelude.{common_steps, ◌≡◌, ◌≢◌, ℕ, zero, suc, ◌+◌, ◌-◌, ◌<◌, ◌≤◌, ◌==◌, ◌&&◌, ◌||◌, not}
-use Rattle.rx_spec.proofs.Prelude.{Bool, true, false, cond, List, [], ◌∷◌, ◌++◌, length, drop, slice_index, ap, ap₂}
+use Rattle.rx_spec.proofs.Prelude.{Bool, true, false, cond, List, ◌∷◌, ◌++◌, length, drop, slice_index, ap, ap₂}
 use Rattle.rx_spec.proofs.Prelude.{sym, ◌∙◌, arith, map, filter, length-drop, length-take-le, slice_range, prefix_len}
 use Rattle.rx_spec.proofs.Prelude.{range_with_len, or-true, eq-eqb, eqb-true, nat_tests}
 use Rattle.std.proofs.lemmas.List.Folds.{length-prefix_len}

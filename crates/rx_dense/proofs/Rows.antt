@@ -1,9 +1,10 @@
 -- Rows and their ids: the id of a row is its number times the stride.
-use Rattle.rx_spec.proofs.Prelude.{common_steps, ◌≡◌, ℕ, zero, suc, ◌+◌, ◌-◌, ◌*◌, ◌/◌, ◌%◌, ◌^◌, ◌<◌, ◌≤◌, ◌==◌}
+use Rattle.rx_spec.proofs.Prelude.{common_steps, rules, ◌≡◌, ℕ, zero, suc, ◌+◌, ◌-◌, ◌*◌, ◌/◌, ◌%◌, ◌^◌, ◌<◌, ◌≤◌, ◌==◌}
 use Rattle.rx_spec.proofs.Prelude.{Option, true, List, take, drop, length, ap, sym, ◌∙◌, subst, ⊎_elim, arith}
 use Rattle.rx_spec.proofs.Prelude.{slice_index, length-take, length-drop, nat_lt, mul-div_cancel, pow-le-pow_right}
 use Rattle.rx_spec.proofs.Prelude.{and_parts, eqb-true, lt-ltb, ltb-true, cases_lt, cases_eq, one_shl, pow_pos}
 use Rattle.rx_spec.proofs.Prelude.{mod-mul-add, mul-le, row_fits, id_of, row_of, Anchored, max_id}
+use Rattle.std.proofs.Math.Nat.{le-mul_of_pos_right}
 use Rattle.std.proofs.lemmas.List.Sums.{passes_at_first}
 use Rattle.lemmas_tables.proofs.Ids.{row_of-id_of, id_of-dense, dense_are_ids}
 use Rattle.rx_search.specs.Starts.{IsId}
@@ -129,6 +130,10 @@ module _ (l : Layout) (rows : AreRows l) where
   entry_row id at is h =
       row_of-id l _ (rows.next_ids (id + at) (entry_within id at is h))
       ∙ ap (λ x. slice_index l.words (x + at) / stride l) (sym (id-times l id is))
+
+-- a row's number is at most the greatest id
+pub number_few : (l : Layout) → AreRows l → (row : ℕ) → row < row_count l → row ≤ max_id
+number_few l are row h = search (rules, id_few, IsRowId-row, le-mul_of_pos_right, pow_pos)
 
 -- ---- the words from a column on
 

@@ -1,5 +1,5 @@
 -- Rows that are renamed, cut off or kept, of a table of three.
-use Rattle.std.specs.Prelude.{◌≡◌, false, List, [], ◌∷◌, ◌++◌, replicate}
+use Rattle.std.specs.Prelude.{◌≡◌, false, [], ◌∷◌, ◌++◌, replicate}
 use Rattle.rx_spec.specs.declared.StartKind.{StartKind}
 use Rattle.rx_dense.specs.Builder.{initial, kept, renamed, with_renamed_row, with_rows}
 use Rattle.rx_dense.specs.Layouts.{Layout}

@@ -11,6 +11,8 @@ pub mod Parts
 pub mod Marks
 -- what a builder's calls make of a table
 pub mod Builder
+-- match rows that a map beside a table tells
+pub mod MatchRows
 pub mod Examples
 -- rows and start entries, as they are handed out one by one
 pub mod States

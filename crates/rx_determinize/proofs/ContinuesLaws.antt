@@ -1,5 +1,5 @@
 -- A construction that goes on: what it had is there still, and what refuses it later refuses it.
-use Rattle.rx_spec.proofs.Prelude.{arith, ◌≡◌, ℕ, List, length, refl, ap, ap₂, sym, ◌∙◌, subst, [], common_steps}
+use Rattle.rx_spec.proofs.Prelude.{arith, ◌≡◌, ℕ, List, length, refl, ap, ap₂, sym, ◌∙◌, subst, common_steps}
 use Rattle.rx_spec.proofs.Prelude.{Exceeds, max_id, Nfa, last_id, table_size}
 use Rattle.rx_determinize.proofs.Prelude.{keying, AreRows, AreUnits, BuildErrorKind, Continues, Extends, HasOneKeyEach}
 use Rattle.rx_determinize.proofs.Prelude.{IsAnother, IsOver, IsRefusal, IsStartedOver, IsWorking, IsWrittenOver, Keying}

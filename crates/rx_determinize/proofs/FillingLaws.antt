@@ -1,5 +1,5 @@
 -- What stays true of a table in which rows are written: where a row is added, and where a cell is set.
-use Rattle.rx_spec.proofs.Prelude.{rules, common_steps, ◌≡◌, ◌≢◌, ℕ, ◌+◌, ◌*◌, ◌/◌, ◌<◌, ◌≤◌, true, Some, List, [], ◌∷◌}
+use Rattle.rx_spec.proofs.Prelude.{rules, common_steps, ◌≡◌, ◌≢◌, ℕ, ◌+◌, ◌*◌, ◌/◌, ◌<◌, ◌≤◌, Some, List, [], ◌∷◌}
 use Rattle.rx_spec.proofs.Prelude.{◌++◌, length, map, get_or, length-append, length-set, refl, ap, sym, ◌∙◌, subst}
 use Rattle.rx_spec.proofs.Prelude.{arith, ⊎_elim, map-append, cases_eq, slice_get_within, Bool, Option, IfSome}
 use Rattle.rx_spec.proofs.Prelude.{if◌then◌else◌, slice_get, ◌⊎◌, Node, Running, next_node, built_entry, State}

@@ -29,13 +29,9 @@ pub mod LabelLaws
 pub mod StartLaws
 -- the patterns of match rows
 pub mod MatchingLaws
--- rows at other places
-pub mod PermutedLaws
 -- a table with all states that are reached
 pub mod BuiltLaws
 -- limits that are passed, or are not
 pub mod LimitLaws
--- tables that are put in order
-pub mod DeterminizedLaws
 -- the start entries of modes
 pub mod ModeLaws

@@ -4,12 +4,12 @@ use Rattle.rx_spec.proofs.Prelude.{◌++◌, length, map, take, length-append, r
 use Rattle.rx_spec.proofs.Prelude.{cases_eq, cases_lt, ne_eqb, length_push, get_or_push, length-take-le, take_more}
 use Rattle.rx_spec.proofs.Prelude.{pow_pos, get_or_from_slice_get, slice_get-get_or, slice_get_within, get, concat}
 use Rattle.rx_spec.proofs.Prelude.{keys_of, values_of, nat_cmp, All, Vec, slice_get, sum_by, vec_items, Global}
-use Rattle.rx_determinize.proofs.Prelude.{is_at_number, key_ids, AreLabels, IsLabelAt, Layout, Matches, label_of}
+use Rattle.rx_determinize.proofs.Prelude.{AreLabels, IsLabelAt, Layout, Matches, label_of}
 use Rattle.rx_determinize.proofs.Prelude.{pattern_lists, patterns_told, stride}
 use Rattle.std.proofs.lemmas.List.Folds.{concat-append}
 use Rattle.std.proofs.lemmas.List.Sums.{sum_by_push}
 use Rattle.std.specs.BTreeMap.{Updates, insert_entry}
-use Rattle.rx_order.proofs.InsertedLists.{inserted_last, lists_last}
+use Rattle.rx_dense.proofs.MatchMaps.{inserted_last, is_at_number, key_ids, lists_last}
 use Rattle.rx_determinize.proofs.WorkListLaws.{old_key, slice_get-append}
 
 -- the rows of two places are apart

@@ -2,7 +2,7 @@
 use Rattle.std.proofs.lemmas.Bool.{cases_Bool}
 use Rattle.rx_spec.proofs.Prelude.{common_steps, ◌≡◌, ℕ, suc, ◌+◌, ◌*◌, ◌/◌, ◌<◌, true, false, List, refl, ap, sym, ◌∙◌}
 use Rattle.rx_spec.proofs.Prelude.{subst, arith, div-mul-add, pow_pos, Bool, Result, Ok, Err, IfErr, IfOk, OnOk}
-use Rattle.rx_spec.proofs.Prelude.{MatchBool, [], contains, Build, Node, Running, IsReached, is_dead_state, next_node}
+use Rattle.rx_spec.proofs.Prelude.{MatchBool, contains, Build, Node, Running, IsReached, is_dead_state, next_node}
 use Rattle.rx_spec.proofs.Prelude.{State, step}
 use Rattle.rx_determinize.proofs.Prelude.{keying, Adds, AreRows, CanAdd, FindsRow, IsKeyOf, IsOver, IsRowId, IsRowOf}
 use Rattle.rx_determinize.proofs.Prelude.{IsStepped, IsWorking, IsWrittenOver, Keying, Layout, Met, Serves, Settled}

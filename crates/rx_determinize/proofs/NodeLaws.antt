@@ -1,5 +1,5 @@
 -- The nodes of a build by their rows.
-use Rattle.rx_spec.proofs.Prelude.{rules, arith, ◌≡◌, ℕ, true, false, Some, List, [], ⊎_elim, common_steps, cases_Bool}
+use Rattle.rx_spec.proofs.Prelude.{rules, arith, ◌≡◌, ℕ, true, false, Some, List, ⊎_elim, common_steps, cases_Bool}
 use Rattle.rx_spec.proofs.Prelude.{when_false, get_or_from_slice_get, slice_get, Build, Node, Quit, Running, dead}
 use Rattle.rx_spec.proofs.Prelude.{is_dead, is_dead_state, next_node, built_entry, node_label, Label, Facts, Nfa}
 use Rattle.rx_spec.proofs.Prelude.{node_at, Anchored, State, dead_state, state_at, step}

@@ -11,14 +11,15 @@ pub use Rattle.rx_dense.proofs.Rows.{IsId-row_id, column_within, multiple_below,
 pub use Rattle.rx_dense.proofs.Shaped.{rows_kept, rows_set, shaped_initial, zero_at, zero_id}
 pub use Rattle.rx_dense.specs.Builder.{Beginning, IsCopied, IsOutside, initial, pattern_lists, with_next, with_row}
 pub use Rattle.rx_dense.specs.Builder.{with_start}
+pub use Rattle.rx_dense.proofs.StartNumbers.{context_at-number}
+pub use Rattle.rx_dense.specs.MatchRows.{AreMatches, IsRouted, Matches, label_by, label_of_patterns}
 pub use Rattle.rx_dense.specs.Layouts.{AreRows, IsRowId, Layout, column, context_number, ids_of, machine_of, mode_place}
 pub use Rattle.rx_dense.specs.Layouts.{row_count, start_entries, stride, table_of}
 pub use Rattle.rx_determinize.specs.Adding.{Adds, CanAdd, IsFull, IsWithin, Passes}
-pub use Rattle.rx_determinize.specs.Building.{HasStates}
-pub use Rattle.rx_determinize.specs.Constructions.{AreUnits, Continues, Extends, IsAnother, IsRefusal, IsStartedOver}
+pub use Rattle.rx_determinize.specs.Building.{HasStates, IsStartedOver}
+pub use Rattle.rx_determinize.specs.Constructions.{AreUnits, Continues, Extends, IsAnother, IsRefusal}
 pub use Rattle.rx_determinize.specs.Constructions.{IsWrittenOver, Serves, Work, keys_in, work_of}
-pub use Rattle.rx_determinize.specs.Determinized.{IsBegunWith, IsDeterminized, Settled, build_in, classes_of}
-pub use Rattle.rx_determinize.specs.Determinized.{limits_of}
+pub use Rattle.rx_determinize.specs.Begun.{IsBegunWith, build_in, classes_of, limits_of}
 pub use Rattle.rx_determinize.specs.Filling.{AreWritten, FindsRow, Grows, HasEntries, IsEntering, IsFilling, IsReady}
 pub use Rattle.rx_determinize.specs.Filling.{IsStepped, IsStepping, StartsAt, begun_at, next_column, none_stepped}
 pub use Rattle.rx_determinize.specs.Matching.{AreLabels, IsLabelAt, patterns_told}
@@ -27,10 +28,9 @@ pub use Rattle.rx_determinize.specs.WorkLists.{AreStartRows, Interns, IsRowOf, I
 pub use Rattle.rx_determinize.specs.Working.{IsOver, IsWorking, Keying, Met, entry_in, next_in, none_met}
 pub use Rattle.rx_determinize.specs.Working.{keying}
 pub use Rattle.rx_determinize.specs.Working.{states_of}
+pub use Rattle.rx_determinize.specs.declared.settled.Settled.{Settled}
 pub use Rattle.rx_expr.specs.Nfa.{meaning}
 pub use Rattle.rx_expr.specs.NfaRows.{NamesPatterns, rows_part}
-pub use Rattle.rx_order.proofs.MarkedRows.{context_at-number, is_at_number, key_ids}
-pub use Rattle.rx_order.specs.Ordering.{AreMatches, IsRouted, IsShuffled, Matches, label_by, label_of_patterns}
 pub use Rattle.rx_spec.specs.Sizes.{build_stride, state_size}
 pub use Rattle.rx_spec.specs.declared.MatchKind.{MatchKind}
 pub use Rattle.rx_spec.specs.declared.Unit.{Unit}

@@ -7,7 +7,7 @@ use Rattle.rx_build_error.specs.declared.BuildErrorKind.{BuildErrorKind}
 use Rattle.rx_determinize.specs.WorkLists.{Interns}
 use Rattle.rx_spec.specs.Builds.{IsReached}
 use Rattle.rx_stepper.specs.Keys.{label_of}
-use Rattle.rx_determinize.specs.Determinized.{Settled}
+use Rattle.rx_determinize.specs.declared.settled.Settled.{Settled}
 use Rattle.rx_determinize.specs.Working.{Keying, Met, IsWorking, bytes_of}
 
 -- A key of a state that is reached may be added. It spells its state's label.

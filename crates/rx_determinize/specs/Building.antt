@@ -9,7 +9,7 @@ use Rattle.rx_spec.specs.States.{State}
 use Rattle.rx_spec.specs.declared.Start.{Start}
 use Rattle.rx_dense.specs.Builder.{pattern_lists}
 use Rattle.rx_dense.specs.Layouts.{Layout, machine_of, row_count, table_of}
-use Rattle.rx_order.specs.Ordering.{AreMatches, IsRouted, Matches, label_by}
+use Rattle.rx_dense.specs.MatchRows.{AreMatches, IsRouted, Matches, label_by}
 
 -- Dead, quit and each state that is reached have a row, and the rows lead as their nodes do. What a row tells stands in
 -- a map, by the row's id.
@@ -27,3 +27,8 @@ pub record HasStates (b : Build) (l : Layout) (matches : Matches) : Type 0 where
   pub are_matches : AreMatches l matches
   pub routed : IsRouted (table_of l)
   pub few_patterns : length (concat (pattern_lists matches)) ≤ max_id
+
+-- Words and start entries were written, and nothing else.
+pub record IsStartedOver (old new : Layout) : Type 0 where
+  pub rest : new ≡ record old { words = new.words; starts = new.starts }
+  pub count : length new.starts ≡ length old.starts

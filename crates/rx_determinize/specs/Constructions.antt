@@ -1,5 +1,5 @@
 -- What a construction carries from one state to the next, and how it goes on.
-use Rattle.std.specs.Prelude.{ℕ, ◌≡◌, ◌++◌, Bool, List, [], ◌∷◌, length, map}
+use Rattle.std.specs.Prelude.{ℕ, ◌≡◌, ◌++◌, Bool, List, [], ◌∷◌, map}
 use Rattle.rx_spec.specs.Bytes.{eoi}
 use Rattle.rx_spec.specs.Classes.{representatives}
 use Rattle.rx_spec.specs.declared.Unit.{Unit}
@@ -9,7 +9,9 @@ use Rattle.rx_dense.specs.Layouts.{Layout, AreRows}
 use Rattle.rx_stepper.specs.Stepping.{HasOneKeyEach, SpellStates, Stepping}
 use Rattle.rx_stepper.specs.Steppers.{stepping_of}
 use Rattle.rx_build_error.specs.declared.BuildErrorKind.{BuildErrorKind}
-use Rattle.rx_determinize.specs.Determinized.{Settled, classes_of}
+use Rattle.rx_determinize.specs.Begun.{classes_of}
+use Rattle.rx_determinize.specs.Building.{IsStartedOver}
+use Rattle.rx_determinize.specs.declared.settled.Settled.{Settled}
 use Rattle.rx_determinize.specs.Working.{Keying, Met, IsOver, IsWorking, keying}
 use Rattle.rx_determinize.specs.declared.construction.Construction.{Construction}
 
@@ -21,7 +23,7 @@ pub record Work : Type 0 where
   pub units : List Unit
 
 abbrev pub work_of : Construction → Work
-work_of c = record { stepping = stepping_of c.stepper; met = c.states; settled = c.config.now; units = c.units.items }
+work_of c = record { stepping = stepping_of c.stepper; met = c.states; settled = c.settled.now; units = c.units.items }
 
 abbrev pub keys_in : Work → Layout → Keying
 keys_in w l = keying w.stepping l
@@ -53,11 +55,6 @@ Extends keys all = (more : List (List ℕ)) × (all ≡ keys ++ more)
 -- only words were written
 abbrev pub IsWrittenOver : Layout → Layout → Type 0
 IsWrittenOver old new = new ≡ record old { words = new.words }
-
--- words and start entries were written
-pub record IsStartedOver (old new : Layout) : Type 0 where
-  pub rest : new ≡ record old { words = new.words; starts = new.starts }
-  pub count : length new.starts ≡ length old.starts
 
 -- A construction went on: it steps states of the same NFA with the same settings, has every state that it had, and of
 -- its table it wrote words and start entries.

@@ -1,5 +1,6 @@
--- how a table is determinized, and what is left in it
-pub mod Determinized
+-- a table that is begun, and the rows that it gets
+pub mod Begun
+pub mod Building
 pub mod WorkLists
 pub mod Working
 pub mod Adding
@@ -7,4 +8,3 @@ pub mod Constructions
 pub mod Filling
 pub mod Models
 pub mod Matching
-pub mod Building

@@ -6,7 +6,7 @@ use Rattle.std.specs.Ordering.{nat_cmp}
 use Rattle.std.specs.declared.alloc.Global.{Global}
 use Rattle.rx_dense.specs.Builder.{pattern_lists}
 use Rattle.rx_dense.specs.Layouts.{Layout, stride}
-use Rattle.rx_order.specs.Ordering.{Matches}
+use Rattle.rx_dense.specs.MatchRows.{Matches}
 use Rattle.rx_stepper.specs.Keys.{label_of}
 
 -- the patterns that a map has for an id; none are no patterns

@@ -1,5 +1,5 @@
 -- The invariant while states are added to a table.
-use Rattle.std.specs.Prelude.{ℕ, ◌≡◌, ◌<◌, ◌≤◌, ◌+◌, ◌*◌, Bool, true, is_some, Option, Some, List, []}
+use Rattle.std.specs.Prelude.{ℕ, ◌≡◌, ◌<◌, ◌≤◌, ◌+◌, ◌*◌, Bool, true, is_some, Some, List, []}
 use Rattle.std.specs.Prelude.{length, map, All, AllPairs, IfSome, ◌≢◌}
 use Rattle.rx_spec.specs.Builds.{Build, IsReached}
 use Rattle.rx_spec.specs.Causes.{Exceeds, max_id}
@@ -10,7 +10,7 @@ use Rattle.rx_spec.specs.declared.Start.{Start}
 use Rattle.rx_dense.specs.Layouts.{Layout, machine_of, row_count, stride}
 use Rattle.rx_stepper.specs.Stepping.{Stepping}
 use Rattle.rx_build_error.specs.declared.BuildErrorKind.{BuildErrorKind}
-use Rattle.rx_determinize.specs.Determinized.{Settled}
+use Rattle.rx_determinize.specs.declared.settled.Settled.{Settled}
 
 -- what a stepper steps for a table: the table's build, and what keys stand for
 pub record Keying : Type 0 where

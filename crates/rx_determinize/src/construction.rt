@@ -13,8 +13,8 @@ ghost use Rattle.rx_determinize.specs.Constructions.{AreUnits, Continues, IsRefu
 ghost use Rattle.rx_determinize.specs.Filling.{FindsRow, IsEntering, IsStepping, begun_at, next_column, none_stepped};
 ghost use Rattle.rx_determinize.specs.Models.{AreModels, IsExploring, IsKeyAt};
 
-use crate::config::Config;
 use crate::models::Models;
+use crate::settled::Settled;
 use crate::states::{States, row_id};
 use rx_base::{ByteClasses, StateID, Unit};
 use rx_build_error::BuildError;
@@ -27,7 +27,7 @@ use std::alloc::{AllocError, Global};
 pub(crate) struct Construction<'n> {
     pub(crate) stepper: Stepper<'n>,
     pub(crate) states: States,
-    pub(crate) config: &'n Config,
+    pub(crate) settled: &'n Settled,
     /// The unit by which each column steps.
     pub(crate) units: Vec<Unit>,
     /// Room for a key.
@@ -59,11 +59,11 @@ impl<'n> Construction<'n> {
         alloc: Global,
         stepper: Stepper<'n>,
         classes: &ByteClasses,
-        config: &'n Config,
+        settled: &'n Settled,
     ) -> Result<Construction<'n>, AllocError>
         ensures stepping { IfOk result (λ c. stepping_of c.stepper ≡ stepping_of stepper.entry) }
         ensures states { IfOk result (λ c. c.states ≡ none_met) }
-        ensures config { IfOk result (λ c. c.config.now ≡ config.now) }
+        ensures settled { IfOk result (λ c. c.settled.now ≡ settled.now) }
         ensures units { IfOk result (λ c. AreUnits c.units.items classes.now) }
     {
         let mut units = Vec::with_capacity(alloc, classes.alphabet_len())?;
@@ -73,7 +73,7 @@ impl<'n> Construction<'n> {
         Ok(Construction {
             stepper,
             states: States::new(alloc),
-            config,
+            settled,
             units,
             key: Vec::new(alloc),
         })
@@ -99,7 +99,7 @@ impl<'n> Construction<'n> {
             }
         }
         if self.stepper.next(at.column, &mut self.key)? {
-            self.states.add(&self.stepper, dfa, self.config, &self.key)
+            self.states.add(&self.stepper, dfa, self.settled, &self.key)
         } else {
             Ok(StateID::ZERO)
         }

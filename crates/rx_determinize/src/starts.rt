@@ -92,7 +92,7 @@ impl Construction<'_> {
             return Ok(StateID::ZERO);
         };
         if self.stepper.start(row, start, &mut self.key)? {
-            self.states.add(&self.stepper, dfa, self.config, &self.key)
+            self.states.add(&self.stepper, dfa, self.settled, &self.key)
         } else {
             Ok(StateID::ZERO)
         }

@@ -11,7 +11,7 @@ ghost use Rattle.rx_stepper.specs.Steppers.{stepping_of};
 ghost use Rattle.rx_determinize.specs.Working.{IsWorking, IsBare, IsOver, keying, none_met};
 ghost use Rattle.rx_determinize.specs.Adding.{Adds, CanAdd, IsFull, IsWithin, Passes};
 
-use crate::config::Config;
+use crate::settled::Settled;
 use rx_base::{PatternID, StateID};
 use rx_build_error::{BuildError, BuildErrorKind};
 use rx_dense::{AddError, OwnedDFA};
@@ -75,18 +75,18 @@ impl States {
         &mut self,
         stepper: &Stepper<'_>,
         dfa: &mut OwnedDFA,
-        config: &Config,
+        settled: &Settled,
         key: &[u32],
     ) -> Result<StateID, BuildError>
         requires count { row_count dfa.old ≡ length self.old.keys + 2 }
-        requires can { CanAdd (keying (stepping_of stepper.now) dfa.old) config.now self.old dfa.old key.now }
+        requires can { CanAdd (keying (stepping_of stepper.now) dfa.old) settled.now self.old dfa.old key.now }
         ensures ok { IfOk result (Adds self.old dfa.old key.now self.new dfa.new) }
         ensures is_row { IfOk result (IsRowId dfa.new) }
         ensures rows { OnOk result (AreRows dfa.new) }
         ensures working { OnOk result
-            (IsWorking (keying (stepping_of stepper.now) dfa.old) config.now self.new dfa.new) }
+            (IsWorking (keying (stepping_of stepper.now) dfa.old) settled.now self.new dfa.new) }
         ensures err { IfErr result (λ error.
-            IsOver (keying (stepping_of stepper.now) dfa.old) config.now dfa.old error.kind) }
+            IsOver (keying (stepping_of stepper.now) dfa.old) settled.now dfa.old error.kind) }
     {
         let rows = dfa.state_len();
         prove!(self.keys.len() + 2 == rows);
@@ -98,25 +98,25 @@ impl States {
         add_row(dfa)?;
         self.size += u128::from(stepper.size(key));
         self.patterns += Stepper::label(key).len() as u128;
-        self.check(dfa, config)?;
+        self.check(dfa, settled)?;
         Ok(row_id(dfa, row))
     }
 
     /// Returns an error if a limit is passed.
-    fn check(&self, dfa: &OwnedDFA, config: &Config) -> Result<(), BuildError>
+    fn check(&self, dfa: &OwnedDFA, settled: &Settled) -> Result<(), BuildError>
         requires { IsBare dfa.now }
-        ensures ok { OnOk result (IsWithin config.now self.now dfa.now) }
-        ensures err { IfErr result (λ error. Passes config.now self.now dfa.now error.kind) }
+        ensures ok { OnOk result (IsWithin settled.now self.now dfa.now) }
+        ensures err { IfErr result (λ error. Passes settled.now self.now dfa.now error.kind) }
     {
         if self.patterns > PatternID::MAX.as_usize() as u128 {
             return Err(BuildErrorKind::TooManyMatchPatternIDs.into());
         }
-        if let Some(limit) = config.dfa_size_limit {
+        if let Some(limit) = settled.dfa_size_limit {
             if dfa.memory_usage() > limit {
                 return Err(BuildErrorKind::DFAExceededSizeLimit { limit }.into());
             }
         }
-        if let Some(limit) = config.determinize_size_limit {
+        if let Some(limit) = settled.determinize_size_limit {
             if self.size > limit as u128 {
                 return Err(BuildErrorKind::DeterminizeExceededSizeLimit { limit }.into());
             }

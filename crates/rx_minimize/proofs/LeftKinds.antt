@@ -9,7 +9,8 @@ use Rattle.rx_dense.proofs.Rows.{quotient}
 use Rattle.rx_order.proofs.KindNumbers.{high_kind, kind_accels, kind_alike, kind_high, kind_starts, none_in_range}
 use Rattle.rx_order.proofs.KindRanges.{accel_id, is_between}
 use Rattle.rx_order.proofs.KindRanges as KindRanges
-use Rattle.rx_order.proofs.MarkedRows.{any_contains, any_has, match_starts, start_row_plain}
+use Rattle.rx_dense.proofs.MatchMaps.{any_contains, any_has}
+use Rattle.rx_order.proofs.MarkedRows.{match_starts, start_row_plain}
 use Rattle.rx_order.proofs.Moved.{factor}
 use Rattle.rx_minimize.proofs.JoinedTables.{IsMinimizing, after, before, first, id_is, label_is, left, number, numbered}
 use Rattle.rx_minimize.proofs.JoinedTables.{size, some, specials, starts_len}

@@ -1,31 +1,12 @@
 -- Lists of patterns that are inserted into a map one after another, each behind the map's last key.
 use Rattle.rx_spec.proofs.Prelude.{◌≡◌, ◌+◌, ◌-◌, ◌*◌, ◌<◌, ◌≤◌, ◌∙◌, ◌++◌, [], ◌∷◌, ℕ, List, All, Vec, Global, map}
 use Rattle.rx_spec.proofs.Prelude.{refl, ap, ap₂, sym, subst, arith, keys, range_with_len, keys_of, values_of, nat_cmp}
-use Rattle.rx_spec.proofs.Prelude.{vec_items, le-ltb, ne_eqb, All-from_get_or, All-head, All-tail}
+use Rattle.rx_spec.proofs.Prelude.{vec_items, All-from_get_or}
 use Rattle.rx_spec.proofs.Prelude.{get_or-map-range_with_len, length-map-range_with_len, map-range_with_len_more}
 use Rattle.rx_spec.proofs.Prelude.{row_fits}
 use Rattle.rx_order.proofs.Prelude.{Matches, pattern_lists}
+use Rattle.rx_dense.proofs.MatchMaps.{inserted_last, keys_last, lists_last}
 use Rattle.std.specs.BTreeMap.{insert_entry}
-
-pub inserted_last : {X : Type 0} (entries : List (ℕ × X)) (k : ℕ) (v : X) → All (λ key. key < k) (keys_of entries)
-    → insert_entry nat_cmp entries k v ≡ entries ++ (k, v) ∷ []
-inserted_last [] k v h = refl
-inserted_last {X} (e ∷ entries) k v h =
-    let low = All-head (λ key. key < k) e.0 (keys_of entries) h in
-    let other : k ≡ e.0 → ⊥ = λ same. absurd (omega (arith, low, same)) in
-    rw (le-ltb k e.0 (omega (arith, low)), ne_eqb k e.0 other)
-    (ap (λ (rest : List (ℕ × X)). e ∷ rest)
-    (inserted_last entries k v (All-tail (λ key. key < k) e.0 (keys_of entries) h)))
-
-pub lists_last : (entries : List (ℕ × Vec ℕ Global)) (k : ℕ) (v : Vec ℕ Global)
-    → map vec_items (values_of (entries ++ (k, v) ∷ [])) ≡ map vec_items (values_of entries) ++ v.items ∷ []
-lists_last [] k v = refl
-lists_last (e ∷ entries) k v = ap (λ (rest : List (List ℕ)). e.1.items ∷ rest) (lists_last entries k v)
-
-pub keys_last : {X : Type 0} (entries : List (ℕ × X)) (k : ℕ) (v : X)
-    → keys_of (entries ++ (k, v) ∷ []) ≡ keys_of entries ++ k ∷ []
-keys_last [] k v = refl
-keys_last (e ∷ entries) k v = ap (λ (rest : List ℕ). e.0 ∷ rest) (keys_last entries k v)
 
 -- The lists of places from one on stand at the ids of the places.
 pub record AreInserted (list_of : ℕ → List ℕ) (width from place : ℕ) (lists : Matches) : Type 0 where

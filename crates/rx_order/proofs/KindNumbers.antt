@@ -1,6 +1,6 @@
 -- Kinds of rows as numbers, and ranges of ids.
 use Rattle.std.proofs.lemmas.Bool.{cases_Bool}
-use Rattle.rx_spec.proofs.Prelude.{common_steps, ◌≡◌, ℕ, ◌-◌, ◌*◌, ◌<◌, ◌≤◌, ◌==◌, ◌&&◌, nat_lt, nat_le, Bool, true}
+use Rattle.rx_spec.proofs.Prelude.{common_steps, ◌≡◌, ℕ, ◌*◌, ◌<◌, ◌≤◌, ◌==◌, ◌&&◌, nat_lt, nat_le, Bool, true}
 use Rattle.rx_spec.proofs.Prelude.{if◌then◌else◌, List, ap, sym, ◌∙◌, ⊎_elim, arith, cases_eq, cases_lt, eq-eqb, ne_eqb}
 use Rattle.rx_spec.proofs.Prelude.{lt-ltb, le-ltb, nat_tests, mul-le, row_fits, Label, is_match_label, false}
 use Rattle.rx_order.proofs.Prelude.{first_id, is_in_range, kind_by, last_id}

@@ -1,69 +1,19 @@
 -- Rows that are marked by their ids: those in which searches start, and those that match.
-use Rattle.rx_spec.proofs.Prelude.{rules, common_steps, ◌≡◌, ℕ, zero, suc, ◌+◌, ◌*◌, ◌/◌, ◌%◌, ◌<◌, ◌==◌, ◌||◌, Bool}
-use Rattle.rx_spec.proofs.Prelude.{true, false, List, [], ◌∷◌, if◌then◌else◌, nat_lt, subst, length, drop, map}
+use Rattle.rx_spec.proofs.Prelude.{rules, common_steps, ◌≡◌, ℕ, ◌+◌, ◌*◌, ◌/◌, ◌%◌, ◌<◌, ◌==◌, ◌||◌, Bool}
+use Rattle.rx_spec.proofs.Prelude.{true, false, List, [], ◌∷◌, if◌then◌else◌, nat_lt, length}
 use Rattle.rx_spec.proofs.Prelude.{slice_index, slice_set, get_or, All, refl, ap, sym, ◌∙◌, ⊎_elim, arith, list_any}
-use Rattle.rx_spec.proofs.Prelude.{drop-cons, is_at, keys_of, is_eq, nat_cmp, Contains, Option, Some, None, is_some}
-use Rattle.rx_spec.proofs.Prelude.{and_parts, cases_eq, cases_lt, eq-eqb, false≢true, le-ltb, lt-ltb, ne_eqb}
+use Rattle.rx_spec.proofs.Prelude.{Contains}
+use Rattle.rx_spec.proofs.Prelude.{and_parts, cases_eq, eq-eqb, false≢true, lt-ltb, ne_eqb}
 use Rattle.rx_spec.proofs.Prelude.{get_or_default, get_or-set_same, get_or-set_other, All-head, All-tail}
-use Rattle.rx_spec.proofs.Prelude.{Contains-get_or, pow_pos, or-false, or-true, mul-div_cancel, Label, IsSound}
+use Rattle.rx_spec.proofs.Prelude.{pow_pos, or-false, or-true, mul-div_cancel, Label, IsSound}
 use Rattle.rx_spec.proofs.Prelude.{is_match}
 use Rattle.std.proofs.lemmas.Bool.{cases_Bool}
-use Rattle.rx_order.proofs.Prelude.{AreStarts, Layout, Start, context_number, drop_all, is_start_row, length-set}
+use Rattle.rx_order.proofs.Prelude.{Layout, context_number, is_start_row, length-set}
 use Rattle.rx_order.proofs.Prelude.{machine_of, mode_place, quotient, row-below, row_count, stride, table_of}
-use Rattle.std.specs.Map.{lookup}
-use Rattle.std.proofs.lemmas.Map.Entries.{lookup_head, lookup_tail}
-use Rattle.lemmas_walks.proofs.Firsts.{Contains-here, Contains-nil, Contains-there}
 use Rattle.rx_base.specs.Search.{mode_of}
-use Rattle.rx_base.specs.declared.search.Anchored.{Anchored}
 use Rattle.rx_dense.specs.Layouts.{IsRowId}
-use Rattle.rx_dense.specs.States.{starts_of}
-use Rattle.rx_dense.proofs.States.{starts_of-len, starts_of-next}
-
--- a start entry: an id, a mode and a context
-abbrev pub Entry : Type 0
-Entry = ℕ × Anchored × Start
-
-pub mode_at : ℕ → Anchored
-mode_at zero = Anchored.No
-mode_at (suc zero) = Anchored.Yes
-mode_at (suc (suc k)) = Anchored.Pattern k
-
-pub mode_at-place : (group : ℕ) → mode_place (mode_of (mode_at group)) ≡ 6 * group
-unfolding mode_at
-mode_at-place group = grind (arith, common_steps, cases_eq, cases_lt)
-
-pub context_at : ℕ → Start
-context_at zero = Start.NonWordByte
-context_at (suc zero) = Start.WordByte
-context_at (suc (suc zero)) = Start.Text
-context_at (suc (suc (suc zero))) = Start.LineLF
-context_at (suc (suc (suc (suc zero)))) = Start.LineCR
-context_at (suc (suc (suc (suc (suc k))))) = Start.CustomLineTerminator
-
-pub context_at-number : (number : ℕ) → number < 6 → context_number (context_at number) ≡ number
-unfolding context_at
-context_at-number number h = grind (arith, common_steps, cases_eq, cases_lt)
-
-module _ (l : Layout) (starts : AreStarts l) where
-  ids_from : (more place : ℕ) → place + more ≡ length l.starts
-      → map (λ (e : Entry). e.0) (drop place (starts_of l)) ≡ drop place l.starts
-  ids_from zero place h =
-      ap (map (λ (e : Entry). e.0)) (drop_all place (starts_of l) (omega (arith, starts_of-len l starts)))
-      ∙ sym (drop_all place l.starts (omega arith))
-  ids_from (suc more) place h =
-      let mode = mode_at (place / 6) in
-      let context = context_at (place % 6) in
-      let number : place % 6 < 6 = omega arith in
-      let next : suc place ≡ place + 1 = omega arith in
-      ap (map (λ (e : Entry). e.0))
-      (starts_of-next l starts place (omega arith) mode context (mode_at-place (place / 6))
-      (context_at-number (place % 6) number))
-      ∙ ap (λ (ids : List ℕ). slice_index l.starts place ∷ ids) (ids_from more (place + 1) (omega arith))
-      ∙ sym (drop-cons l.starts place 0 (omega arith)
-      ∙ ap (λ n. slice_index l.starts place ∷ drop n l.starts) next)
-
-  pub entry_ids : map (λ (e : Entry). e.0) (starts_of l) ≡ l.starts
-  entry_ids = ids_from (length l.starts) 0 (omega arith)
+use Rattle.rx_dense.proofs.MatchMaps.{any_contains}
+use Rattle.rx_dense.proofs.StartNumbers.{context_at, context_at-number, mode_at, mode_at-place}
 
 -- ---- rows of ids, noted one after another
 
@@ -74,19 +24,6 @@ pub record AreNoted (l : Layout) (flags : List Bool) (left all : List ℕ) : Typ
       → (get_or flags row false || list_any (λ id. id == row * stride l) left)
       ≡ list_any (λ id. id == row * stride l) all
   pub ids : All (IsRowId l) left
-
--- a test finds a member
-pub any_contains : (x : ℕ) (xs : List ℕ) → list_any (λ y. y == x) xs ≡ true → Contains xs x
-any_contains x [] e = absurd (false≢true e)
-any_contains x (y ∷ ys) e =
-    ⊎_elim
-    (λ (here : y ≡ x). subst (λ z. Contains (y ∷ ys) z) here (Contains-here y ys))
-    (λ (other : y ≡ x → ⊥).
-    Contains-there y ys x (any_contains x ys (sym (ap (λ b. b || list_any (λ y. y == x) ys) (ne_eqb y x other)) ∙ e)))
-    (cases_eq y x)
-
-pub any_has : (x : ℕ) (xs : List ℕ) → Contains xs x → list_any (λ y. y == x) xs ≡ true
-any_has x xs c = grind (arith, common_steps, Contains-nil, eq-eqb, or-true)
 
 pub none_noted : (l : Layout) (flags : List Bool) (all : List ℕ) → length flags ≡ row_count l
     → ((row : ℕ) → row < row_count l → get_or flags row false ≡ false) → All (IsRowId l) all → AreNoted l flags all all
@@ -167,37 +104,3 @@ match_starts l sound row e = by_start (is_start_row l row) refl
   where
     by_start : (b : Bool) → is_start_row l row ≡ b → b ≡ false
     by_start b h = search (rules, false≢true, start_row_plain)
-
--- ---- keys
-
-pub is_at_number : (k x : ℕ) → is_eq (nat_cmp k x) ≡ (x == k)
-is_at_number k x = grind (arith, common_steps, lt-ltb, ne_eqb, le-ltb, eq-eqb, cases_eq, cases_lt)
-
--- a map has a key where some key is it
-pub has_key : {X : Type 0} (k : ℕ) (entries : List (ℕ × X))
-    → is_some (lookup (is_at (nat_cmp k)) entries) ≡ list_any (λ x. x == k) (keys_of entries)
-has_key k [] = refl
-has_key {X} k (e ∷ entries) = by_test (is_at (nat_cmp k) e.0) refl (has_key k entries)
-  where
-    by_test : (b : Bool) → is_at (nat_cmp k) e.0 ≡ b
-        → is_some (lookup (is_at (nat_cmp k)) entries) ≡ list_any (λ x. x == k) (keys_of entries)
-        → is_some (lookup (is_at (nat_cmp k)) (e ∷ entries)) ≡ list_any (λ x. x == k) (keys_of (e ∷ entries))
-    by_test b t rest = grind (arith, common_steps, cases_Bool, lookup_head, is_at_number, e.0, lookup_tail)
-
--- each key is one that the map has
-pub key_ids : {X : Type 0} (P : ℕ → Type 0) (entries : List (ℕ × X))
-    → ((k : ℕ) (v : X) → lookup (is_at (nat_cmp k)) entries ≡ Some v → P k) → All P (keys_of entries)
-key_ids {X} P entries each k d h = found (lookup (is_at (nat_cmp key)) entries) refl
-  where
-    key : ℕ
-    key = get_or (keys_of entries) k d
-
-    found : (o : Option X) → lookup (is_at (nat_cmp (get_or (keys_of entries) k d))) entries ≡ o
-        → P (get_or (keys_of entries) k d)
-    found (Some v) e = each (get_or (keys_of entries) k d) v e
-    found None e =
-        let none : list_any (λ x. x == get_or (keys_of entries) k d) (keys_of entries) ≡ false =
-        sym (has_key (get_or (keys_of entries) k d) entries) ∙ ap (λ (o : Option X). is_some o) e in
-        let some : list_any (λ x. x == get_or (keys_of entries) k d) (keys_of entries) ≡ true =
-        any_has (get_or (keys_of entries) k d) (keys_of entries) (Contains-get_or (keys_of entries) k d h) in
-        absurd (false≢true (sym none ∙ some))

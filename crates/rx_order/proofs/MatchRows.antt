@@ -1,5 +1,5 @@
 -- Match rows in order: where their patterns stand, and what each row tells.
-use Rattle.rx_spec.proofs.Prelude.{rules, ◌≡◌, ℕ, ◌+◌, ◌-◌, ◌*◌, ◌/◌, ◌<◌, ◌≤◌, ◌⊎◌, ◌==◌, nat_lt, nat_le, Bool, true}
+use Rattle.rx_spec.proofs.Prelude.{rules, ◌≡◌, ℕ, ◌+◌, ◌-◌, ◌*◌, ◌/◌, ◌<◌, ◌≤◌, ◌==◌, nat_lt, nat_le, Bool, true}
 use Rattle.rx_spec.proofs.Prelude.{false, if◌then◌else◌, List, [], length, map, take, drop, slice_index, get_or, refl}
 use Rattle.rx_spec.proofs.Prelude.{ap, ap₂, sym, ◌∙◌, ⊎_elim, arith, common_steps, concat, range_with_len}
 use Rattle.rx_spec.proofs.Prelude.{mul-div_cancel, and_parts, cases_eq, cases_lt, eq-eqb, false≢true, le-ltb, leb-true}

@@ -9,14 +9,14 @@ pub use Rattle.rx_dense.specs.Builder.{AreSwapped, IsMachineRenamed, IsOutside, 
 pub use Rattle.rx_dense.specs.Builder.{slices_from, with_patterns}
 pub use Rattle.rx_dense.specs.Layouts.{AreStarts, Layout, column, context_number, ids_of, machine_of, mode_place}
 pub use Rattle.rx_dense.specs.Layouts.{patterns_at, place_in_range, row_count, stride, table_of, universal_row}
+pub use Rattle.rx_dense.specs.MatchRows.{AreMatches, IsRouted, Matches, is_match_row, label_by, label_of_patterns}
 pub use Rattle.rx_dense.specs.Specials.{greatest, is_accel_id, is_in_range, is_match_id, is_quit_id, is_start_id}
 pub use Rattle.rx_dense.specs.declared.special.Special.{Special}
 pub use Rattle.rx_order.specs.ByKind.{AreByKind, AreKinds, AreRanked, AreSkippable, HaveMatches, lists_in}
 unfoldable pub use Rattle.rx_order.specs.ByKind.{leaving_of}
 pub use Rattle.rx_order.specs.Examples.{five_ends, five_kinds, last_first, three_renamed, three_rows}
 pub use Rattle.rx_order.specs.Moved.{AreMoved, AreUnmoved, IsReordered, LiesAt}
-pub use Rattle.rx_order.specs.Ordering.{AreMatches, IsAccelerated, IsRouted, IsShuffled, Matches, is_match_row}
-pub use Rattle.rx_order.specs.Ordering.{label_by, label_of_patterns}
+pub use Rattle.rx_order.specs.Ordering.{IsAccelerated, IsShuffled}
 pub use Rattle.rx_order.specs.Permuted.{IsPermuted}
 pub use Rattle.rx_order.specs.Ranks.{ranked_row}
 pub use Rattle.rx_order.specs.Renaming.{Arrangement, Fits, IsArrangement, IsRearranged, IsRenamed, new_id, place_of}

@@ -1,10 +1,10 @@
 -- Rows in order, by whose kinds it is known which match and from which a search may skip.
 use Rattle.rx_spec.proofs.Prelude.{common_steps, ◌≡◌, ℕ, ◌*◌, ◌%◌, ◌<◌, ◌≤◌, ◌&&◌, nat_lt, nat_le, Bool, true, List}
-use Rattle.rx_spec.proofs.Prelude.{length, slice_index, ap, sym, ◌∙◌, subst, ⊎_elim, arith, rules, range_with_len}
-use Rattle.rx_spec.proofs.Prelude.{IsPermutation, Option, is_some, mod-eq_of_lt, pow_pos, cases_lt, false≢true, max_id}
+use Rattle.rx_spec.proofs.Prelude.{length, slice_index, ap, sym, ◌∙◌, subst, ⊎_elim, arith, range_with_len}
+use Rattle.rx_spec.proofs.Prelude.{IsPermutation, Option, is_some, mod-eq_of_lt, cases_lt, false≢true, max_id}
 use Rattle.rx_spec.proofs.Prelude.{row_of, is_match}
 use Rattle.rx_order.proofs.Prelude.{AreSkippable, HaveMatches, IsId, IsId-row_id, IsRowId-row, Layout, are_needles}
-use Rattle.rx_order.proofs.Prelude.{id_few, ids_of, is_start_row, kind_by, le-mul_of_pos_right, leaving_of, row_count}
+use Rattle.rx_order.proofs.Prelude.{id_few, ids_of, is_start_row, kind_by, leaving_of, row_count}
 use Rattle.rx_order.proofs.Prelude.{row_of-row, stride, table_of}
 use Rattle.std.specs.Prelude.{IsSome}
 use Rattle.rx_dense.specs.Layouts.{AreRows}
@@ -36,10 +36,6 @@ id_of_number l are row h id e =
     let n = row_numbered l are row h in
     let is = e ∙ n.shifted in
     (subst (IsId (ids_of l)) (sym is) n.is_id, ap (row_of (ids_of l)) is ∙ n.row_is)
-
--- a row's number is at most the greatest id
-pub number_few : (l : Layout) → AreRows l → (row : ℕ) → row < row_count l → row ≤ max_id
-number_few l are row h = search (rules, id_few, le-mul_of_pos_right, pow_pos)
 
 -- a test that holds is that of something
 pub some_of : {X : Type 0} (o : Option X) → is_some o ≡ true → IsSome o

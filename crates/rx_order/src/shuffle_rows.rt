@@ -9,9 +9,10 @@ ghost use Rattle.rx_spec.specs.Causes.{max_id};
 ghost use Rattle.rx_spec.specs.Tables.{IsSound};
 ghost use Rattle.rx_dense.specs.Builder.{pattern_lists};
 ghost use Rattle.rx_dense.specs.Layouts.{AreRows, AreStarts, row_count, table_of};
+ghost use Rattle.rx_dense.specs.MatchRows.{AreMatches, IsRouted, is_match_row};
 ghost use Rattle.rx_order.specs.ByKind.{AreKinds};
 ghost use Rattle.rx_order.specs.RowOrder.{match_lists};
-ghost use Rattle.rx_order.specs.Ordering.{AreMatches, IsRouted, IsShuffled, is_match_row};
+ghost use Rattle.rx_order.specs.Ordering.{IsShuffled};
 
 use crate::kinds::{kind, start_rows};
 use crate::order::{Order, special};

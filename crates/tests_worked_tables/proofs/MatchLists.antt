@@ -5,8 +5,8 @@ use Rattle.std.specs.BTreeMap.{Updates}
 use Rattle.rx_search.specs.Starts.{IsId}
 use Rattle.rx_dense.specs.Layouts.{Layout, IsRowId, ids_of, stride}
 use Rattle.rx_dense.proofs.Rows.{id-times}
-use Rattle.rx_order.specs.Ordering.{AreMatches, Matches}
-use Rattle.rx_order.proofs.MarkedRows.{is_at_number}
+use Rattle.rx_dense.specs.MatchRows.{AreMatches, Matches}
+use Rattle.rx_dense.proofs.MatchMaps.{is_at_number}
 
 -- the patterns of a row after quit in which no search starts
 pub record IsMatch (l : Layout) (id : ℕ) (patterns : Vec ℕ Global) : Type 0 where

@@ -1,7 +1,8 @@
 -- Tables that are built.
 use Rattle.rx_spec.proofs.Prelude.{◌≤◌, length, ap, ◌∙◌, concat, max_id, IsSound}
 use Rattle.rx_dense.specs.Layouts.{Layout, table_of}
-use Rattle.rx_order.specs.Ordering.{IsShuffled, Matches}
+use Rattle.rx_dense.specs.MatchRows.{Matches}
+use Rattle.rx_order.specs.Ordering.{IsShuffled}
 use Rattle.rx_order.specs.RowOrder.{match_lists}
 use Rattle.tests_worked_tables.specs.Tables.{IsBare, IsReady}
 

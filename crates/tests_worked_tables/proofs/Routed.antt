@@ -5,7 +5,7 @@ use Rattle.rx_spec.proofs.Prelude.{cases_lt, le-ltb, lt-ltb, Contains-get_or, An
 use Rattle.rx_spec.specs.declared.Start.{Start}
 use Rattle.rx_dense.specs.Layouts.{Layout, AreStarts, context_number, machine_of, mode_place, stride}
 use Rattle.rx_dense.proofs.Rows.{quotient, start_is_row, start_within}
-use Rattle.rx_order.proofs.MarkedRows.{Entry}
+use Rattle.rx_dense.proofs.StartNumbers.{Entry}
 
 -- whether some remaining entry has an id
 abbrev pub any_left : ℕ → List Entry → Bool

@@ -4,7 +4,7 @@ ghost use Rattle.std.specs.Prelude.{◌≡◌, ℕ, ◌<◌, Contains, IfOk, tru
 ghost use Rattle.rx_spec.specs.Ids.{row_of};
 ghost use Rattle.rx_search.specs.Starts.{IsId};
 ghost use Rattle.rx_dense.specs.Layouts.{AreRows, AreStarts, ids_of, row_count, table_of};
-ghost use Rattle.rx_order.specs.Ordering.{IsRouted};
+ghost use Rattle.rx_dense.specs.MatchRows.{IsRouted};
 ghost use Rattle.tests_worked_tables.specs.Tables.{IsBare};
 
 use rx_base::StateID;

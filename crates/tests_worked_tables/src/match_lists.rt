@@ -1,7 +1,7 @@
 //! The patterns of match rows.
 
 ghost use Rattle.std.specs.Prelude.{◌<◌, All, IfOk, length};
-ghost use Rattle.rx_order.specs.Ordering.{AreMatches};
+ghost use Rattle.rx_dense.specs.MatchRows.{AreMatches};
 
 use crate::checks::{id_or_fail, starts_at};
 use rx_base::{PatternID, StateID};

@@ -3,7 +3,7 @@
 ghost use Rattle.std.specs.Prelude.{◌≡◌, ℕ, ◌<◌, IfOk, true};
 ghost use Rattle.rx_spec.specs.Classes.{has_unicode_word, quit_set};
 ghost use Rattle.rx_expr.specs.Nfa.{meaning};
-ghost use Rattle.rx_determinize.specs.Determinized.{classes_of};
+ghost use Rattle.rx_determinize.specs.Begun.{classes_of};
 
 use rx_base::{ByteClasses, ByteSet};
 use rx_expr::thompson::NFA;

@@ -2,7 +2,8 @@ use Rattle.rx_spec.proofs.Prelude.{◌≡◌, ◌+◌, ◌-◌, ◌≤◌, ◌�
 use Rattle.rx_spec.proofs.Prelude.{sym, arith, range_with_len, get_or_default, length-map-range_with_len}
 use Rattle.rx_spec.proofs.Prelude.{map-range_with_len_more, row_of}
 use Rattle.rx_order.proofs.Prelude.{IsId, are_needles, ids_of, leaving_of, table_of}
-use Rattle.rx_order.proofs.Sorted.{ends_rise, id_of_number, number_few, numbered, place_below, row_in, rows_count}
+use Rattle.rx_dense.proofs.Rows.{number_few}
+use Rattle.rx_order.proofs.Sorted.{ends_rise, id_of_number, numbered, place_below, row_in, rows_count}
 use Rattle.rx_order.proofs.Sorted.{skippable, some_of}
 use Rattle.rx_order.proofs.accelerate_rows.accels.Goals.{After-must-id}
 use Rattle.rx_order.proofs.accelerate_rows.accels.Goals as goal

@@ -1,7 +1,8 @@
 use Rattle.rx_spec.proofs.Prelude.{common_steps, ◌≡◌, ◌∙◌, List, Bool, false, map, length, get_or, rules, replicate, ap}
 use Rattle.rx_spec.proofs.Prelude.{subst, arith, All-from_get_or, get_or-replicate, length-replicate}
 use Rattle.rx_dense.specs.Layouts.{IsRowId}
-use Rattle.rx_order.proofs.MarkedRows.{AreNoted, Entry, all_noted, entry_ids, id_row, none_noted, one_noted}
+use Rattle.rx_dense.proofs.StartNumbers.{Entry, entry_ids}
+use Rattle.rx_order.proofs.MarkedRows.{AreNoted, all_noted, id_row, none_noted, one_noted}
 use Rattle.rx_order.proofs.kinds.start_rows.Goals as goal
 
 pub loop-id-init : goal.loop-id-init

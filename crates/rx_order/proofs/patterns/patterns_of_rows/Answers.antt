@@ -1,4 +1,4 @@
-use Rattle.rx_spec.proofs.Prelude.{rules, ◌≡◌, ◌-◌, ◌*◌, ◌∙◌, slice_index, ap, arith, common_steps, pow_pos, row_of}
+use Rattle.rx_spec.proofs.Prelude.{rules, ◌≡◌, ◌*◌, ◌∙◌, slice_index, ap, arith, common_steps, pow_pos, row_of}
 use Rattle.rx_spec.proofs.Prelude.{is_match}
 use Rattle.rx_order.proofs.Prelude.{IsId, ids_of, patterns_of, stride, table_of}
 use Rattle.rx_order.proofs.InsertedLists.{one_inserted}

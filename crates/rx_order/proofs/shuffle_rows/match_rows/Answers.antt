@@ -1,7 +1,8 @@
 use Rattle.rx_spec.proofs.Prelude.{◌≡◌, ◌∙◌, List, Bool, false, length, get_or, rules, replicate, ap, subst, arith}
 use Rattle.rx_spec.proofs.Prelude.{keys, get_or-replicate, length-replicate}
 use Rattle.rx_dense.specs.Layouts.{IsRowId}
-use Rattle.rx_order.proofs.MarkedRows.{AreNoted, all_noted, has_key, id_row, key_ids, none_noted, one_noted}
+use Rattle.rx_dense.proofs.MatchMaps.{has_key, key_ids}
+use Rattle.rx_order.proofs.MarkedRows.{AreNoted, all_noted, id_row, none_noted, one_noted}
 use Rattle.rx_order.proofs.shuffle_rows.match_rows.Goals as goal
 
 pub loop-id-init : goal.loop-id-init

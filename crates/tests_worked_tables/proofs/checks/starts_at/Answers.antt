@@ -1,5 +1,5 @@
 use Rattle.rx_spec.proofs.Prelude.{arith, common_steps}
-use Rattle.rx_order.proofs.MarkedRows.{entry_ids}
+use Rattle.rx_dense.proofs.StartNumbers.{entry_ids}
 use Rattle.tests_worked_tables.proofs.Routed.{any_left}
 use Rattle.tests_worked_tables.proofs.checks.starts_at.Goals as goal
 

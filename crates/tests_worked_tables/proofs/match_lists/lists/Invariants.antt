@@ -1,4 +1,4 @@
-use Rattle.rx_order.specs.Ordering.{AreMatches}
+use Rattle.rx_dense.specs.MatchRows.{AreMatches}
 use Rattle.tests_worked_tables.proofs.match_lists.lists.Given as goal
 
 abbrev pub invariant-loop-row : goal.invariant-loop-row

@@ -1,4 +1,4 @@
-use Rattle.rx_spec.proofs.Prelude.{common_steps, ◌-◌, [], arith}
+use Rattle.rx_spec.proofs.Prelude.{common_steps, arith}
 use Rattle.rx_dense.proofs.AccelLists.{accel_lists_len, accel_lists_push}
 use Rattle.rx_dense.proofs.accel.Accels.add.Goals as goal
 

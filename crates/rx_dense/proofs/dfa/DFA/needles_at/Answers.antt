@@ -1,4 +1,4 @@
-use Rattle.rx_spec.proofs.Prelude.{common_steps, [], arith}
+use Rattle.rx_spec.proofs.Prelude.{common_steps, arith}
 use Rattle.rx_dense.proofs.AccelLists.{accel_lists_at, accel_lists_len}
 use Rattle.rx_dense.proofs.dfa.DFA.needles_at.Goals as goal
 

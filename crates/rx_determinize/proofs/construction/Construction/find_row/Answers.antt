@@ -23,7 +23,7 @@ key_is : (c : After-deref) → IsKeyOf (stepping_of c.args.self.now.stepper) c.d
     (stepped (stepping_of c.args.self.now.stepper) c.args.at.column)
 key_is c = grind (arith, common_steps)
 
-can_add : (c : After-deref) → CanAdd (keys_in (work_of c.args.self.now) c.args.dfa.now) c.args.self.now.config.now
+can_add : (c : After-deref) → CanAdd (keys_in (work_of c.args.self.now) c.args.dfa.now) c.args.self.now.settled.now
     c.args.self.now.states c.args.dfa.now c.deref.result.now
 can_add c =
     let r = c.requires in
@@ -33,7 +33,7 @@ can_add c =
     (current_reached r.stepping) c.args.at.column r.column r.goes_on (key_is c))
 
 pub add-requires-clause-can : goal.add-requires-clause-can
-add-requires-clause-can c = may_by c.args.dfa.now c.next.ensures.kept c.args.self.now.config.now (can_add c)
+add-requires-clause-can c = may_by c.args.dfa.now c.next.ensures.kept c.args.self.now.settled.now (can_add c)
 
 pub returns-then-branch-clause-found : goal.returns-then-branch-clause-found
 returns-then-branch-clause-found c =
@@ -41,7 +41,7 @@ returns-then-branch-clause-found c =
     let same = ap (λ (s : Stepping). record w { stepping = s; met = c.add.new.self }) c.next.ensures.kept in
     found_added c.add.result c.add.new.dfa same c.requires.stepping.entering.serves
     (key_is (goal.at.returns-then-branch-clause-found c).After-deref) c.add.ensures.ok c.add.ensures.is_row
-    c.add.ensures.rows (working_by c.args.dfa.now c.next.ensures.kept c.args.self.now.config.now c.add.result
+    c.add.ensures.rows (working_by c.args.dfa.now c.next.ensures.kept c.args.self.now.settled.now c.add.result
     c.add.new.self c.add.new.dfa c.add.ensures.working)
 
 pub returns-then-branch-clause-err : goal.returns-then-branch-clause-err

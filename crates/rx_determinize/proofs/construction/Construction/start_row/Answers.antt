@@ -21,7 +21,7 @@ key_is : (c : After-deref) → IsKeyOf (stepping_of c.args.self.now.stepper) c.d
     (start_state (stepping_of c.args.self.now.stepper).nfa c.in-Some.row c.args.start)
 key_is c = grind (arith, common_steps)
 
-can_add : (c : After-deref) → CanAdd (keys_in (work_of c.args.self.now) c.args.dfa.now) c.args.self.now.config.now
+can_add : (c : After-deref) → CanAdd (keys_in (work_of c.args.self.now) c.args.dfa.now) c.args.self.now.settled.now
     c.args.self.now.states c.args.dfa.now c.deref.result.now
 can_add c =
     let s = stepping_of c.args.self.now.stepper in
@@ -33,7 +33,7 @@ can_add c =
     key_may c.requires.serves (key_is c) (reached (key_is c).alive)
 
 pub add-requires-clause-can : goal.add-requires-clause-can
-add-requires-clause-can c = may_by c.args.dfa.now c.start.ensures.kept c.args.self.now.config.now (can_add c)
+add-requires-clause-can c = may_by c.args.dfa.now c.start.ensures.kept c.args.self.now.settled.now (can_add c)
 
 pub returns-then-branch-clause-found : goal.returns-then-branch-clause-found
 returns-then-branch-clause-found c =
@@ -41,14 +41,14 @@ returns-then-branch-clause-found c =
     let same = ap (λ (s : Stepping). record w { stepping = s; met = c.add.new.self }) c.start.ensures.kept in
     let found = found_added c.add.result c.add.new.dfa same c.requires.serves
     (key_is (goal.at.returns-then-branch-clause-found c).After-deref) c.add.ensures.ok c.add.ensures.is_row
-    c.add.ensures.rows (working_by c.args.dfa.now c.start.ensures.kept c.args.self.now.config.now c.add.result
+    c.add.ensures.rows (working_by c.args.dfa.now c.start.ensures.kept c.args.self.now.settled.now c.add.result
     c.add.new.self c.add.new.dfa c.add.ensures.working) in
     let v = record w { stepping = stepping_of c.start.new.self; met = c.add.new.self } in
     grind (arith, common_steps)
 
 pub returns-then-branch-clause-err : goal.returns-then-branch-clause-err
 returns-then-branch-clause-err c =
-    over_by c.args.dfa.now c.start.ensures.kept c.args.self.now.config.now c.add.result c.add.ensures.err
+    over_by c.args.dfa.now c.start.ensures.kept c.args.self.now.settled.now c.add.result c.add.ensures.err
 
 pub returns-else-branch-clause-found : goal.returns-else-branch-clause-found
 returns-else-branch-clause-found c =

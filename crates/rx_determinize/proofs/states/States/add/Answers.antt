@@ -3,7 +3,7 @@ use Rattle.rx_spec.proofs.Prelude.{common_steps, ◌≡◌, ℕ, ◌+◌, ◌*�
 use Rattle.rx_spec.proofs.Prelude.{subst, refl, arith, true, false, length_push, slice_get_within, err_from_is_err_and}
 use Rattle.rx_spec.proofs.Prelude.{not-false, not-true}
 use Rattle.rx_determinize.proofs.Prelude.{keying, AreRows, IsWorking, Layout, Met, row_count, stepping_of, stride}
-use Rattle.rx_order.proofs.Sorted.{number_few}
+use Rattle.rx_dense.proofs.Rows.{number_few}
 use Rattle.rx_determinize.proofs.AddingLaws.{is_over_full, over_new, one_more_row, working_new, keys_at, IsNew, met_of}
 use Rattle.rx_determinize.proofs.AddingLaws.{met_with, keys_kept, same_met, new_key}
 use Rattle.rx_determinize.proofs.states.States.add.Goals.{Then-not-interned, Else-not-interned, After-label}
@@ -39,7 +39,7 @@ returns-then-not-interned-clause-ok c =
 pub returns-then-not-interned-clause-working : goal.returns-then-not-interned-clause-working
 returns-then-not-interned-clause-working c =
     let at = (goal.at.returns-then-not-interned-clause-working c).Then-not-interned in
-    subst (λ (m : Met). IsWorking (keying (stepping_of c.args.stepper.now) c.args.dfa.now) c.args.config.now m
+    subst (λ (m : Met). IsWorking (keying (stepping_of c.args.stepper.now) c.args.dfa.now) c.args.settled.now m
     c.args.dfa.now) (sym (same_met (keys_same at)
     (ap (λ (m : Met). m.size) c.self.view_is) (ap (λ (m : Met). m.patterns) c.self.view_is))) c.requires.can.working
 

@@ -2,7 +2,7 @@ use Rattle.rx_spec.proofs.Prelude.{◌≡◌, ap₂, subst, ◌∙◌}
 use Rattle.std.specs.Result.{IfOk}
 use Rattle.rx_dense.specs.Builder.{initial}
 use Rattle.rx_dense.specs.Layouts.{Layout}
-use Rattle.rx_determinize.specs.Determinized.{classes_of}
+use Rattle.rx_determinize.specs.Begun.{classes_of}
 use Rattle.rx_expr.specs.Nfa.{meaning}
 use Rattle.rx_build.proofs.dense.builder.Builder.begin.Goals as goal
 

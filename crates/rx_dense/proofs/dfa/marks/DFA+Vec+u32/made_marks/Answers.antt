@@ -1,4 +1,4 @@
-use Rattle.rx_spec.proofs.Prelude.{common_steps, [], arith}
+use Rattle.rx_spec.proofs.Prelude.{common_steps, arith}
 use Rattle.rx_dense.proofs.Marks.{marked_more}
 use Rattle.rx_dense.proofs.dfa.marks.DFA+Vec+u32.made_marks.Goals as goal
 

@@ -1,4 +1,4 @@
-use Rattle.rx_spec.proofs.Prelude.{common_steps, rules, ◌+◌, ◌∙◌, ◌∷◌, ℕ, List, [], ap, ap₂, sym, arith, drop}
+use Rattle.rx_spec.proofs.Prelude.{common_steps, rules, ◌+◌, ◌∙◌, ◌∷◌, ℕ, List, ap, ap₂, sym, arith, drop}
 use Rattle.rx_spec.proofs.Prelude.{slice_index}
 use Rattle.rx_dense.specs.States.{starts_of}
 use Rattle.rx_dense.proofs.Rows.{id_few}

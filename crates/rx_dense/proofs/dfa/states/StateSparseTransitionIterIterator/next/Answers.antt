@@ -1,4 +1,4 @@
-use Rattle.rx_spec.proofs.Prelude.{common_steps, rules, ◌-◌, arith}
+use Rattle.rx_spec.proofs.Prelude.{common_steps, rules, arith}
 use Rattle.rx_dense.proofs.Ranges.{range_end-begins, sparse-dead, sparse-live}
 use Rattle.rx_dense.proofs.dfa.states.StateSparseTransitionIterIterator.next.Goals as goal
 

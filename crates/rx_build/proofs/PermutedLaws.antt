@@ -2,9 +2,11 @@
 use Rattle.rx_spec.proofs.Prelude.{cases_eq, common_steps, ◌≡◌, ℕ, zero, suc, ◌+◌, ◌-◌, ◌<◌, ◌≤◌, List, length, map}
 use Rattle.rx_spec.proofs.Prelude.{get_or, slice_index, ap, sym, subst, ◌∙◌, ⊎_elim, arith, cases_lt, get_or_default}
 use Rattle.rx_spec.proofs.Prelude.{All-from_get_or, All-get_or, get_or-map-range_with_len, length-map-range_with_len}
-use Rattle.rx_spec.proofs.Prelude.{range_with_len, Build, AreReached, IsReached, dead, next_node, node_label, IsPower}
+use Rattle.rx_spec.proofs.Prelude.{range_with_len, Build, AreReached, IsReached, next_node, node_label, IsPower}
 use Rattle.rx_spec.proofs.Prelude.{node_at, State, dead_state, Table}
-use Rattle.rx_determinize.proofs.Prelude.{HasStates, Layout, Matches, label_by, machine_of, row_count, table_of}
+use Rattle.rx_dense.specs.Layouts.{Layout, machine_of, row_count, table_of}
+use Rattle.rx_dense.specs.MatchRows.{Matches, label_by}
+use Rattle.rx_determinize.specs.Building.{HasStates}
 use Rattle.rx_spec.specs.Builds as builds
 use Rattle.rx_order.proofs.Runs.{HasMoved, high_row, label_at, next_at, permuted_moved}
 use Rattle.rx_order.specs.Permuted.{IsPermuted}

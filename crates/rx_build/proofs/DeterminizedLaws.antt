@@ -1,9 +1,13 @@
 -- A table with all states that are reached, whose rows are put in order.
 use Rattle.rx_spec.proofs.Prelude.{◌≡◌, ◌≤◌, length, ap, ◌∙◌, concat, Build, max_id, IsSound}
-use Rattle.rx_determinize.proofs.Prelude.{Beginning, HasStates, IsDeterminized, IsRouted, IsShuffled, IsStartedOver}
-use Rattle.rx_determinize.proofs.Prelude.{Layout, Matches, initial, table_of}
+use Rattle.rx_dense.specs.Builder.{Beginning, initial}
+use Rattle.rx_dense.specs.Layouts.{Layout, table_of}
+use Rattle.rx_dense.specs.MatchRows.{IsRouted, Matches}
+use Rattle.rx_order.specs.Ordering.{IsShuffled}
 use Rattle.rx_order.specs.RowOrder.{match_lists}
-use Rattle.rx_determinize.proofs.PermutedLaws.{permuted_power}
+use Rattle.rx_determinize.specs.Building.{HasStates, IsStartedOver}
+use Rattle.rx_build.specs.Determinized.{IsDeterminized}
+use Rattle.rx_build.proofs.PermutedLaws.{permuted_power}
 
 -- what shuffling leaves
 pub record IsInPlace (l : Layout) (matches : Matches) (new : Layout) : Type 0 where

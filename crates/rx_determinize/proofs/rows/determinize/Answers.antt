@@ -1,20 +1,26 @@
 use Rattle.rx_spec.proofs.Prelude.{common_steps, ◌≡◌, ◌≤◌, Bool, true, All, ap, ◌∙◌, subst, sym, arith, All-weaker}
-use Rattle.rx_spec.proofs.Prelude.{err_from_is_err_and, max_id}
+use Rattle.rx_spec.proofs.Prelude.{err_from_is_err_and, max_id, refl, MatchBool, IsSupported, IsUnsupported}
 use Rattle.rx_determinize.proofs.Prelude.{AreUnits, Continues, HasOneKeyEach, IsBegunWith, SpellStates, Stepping}
-use Rattle.rx_determinize.proofs.Prelude.{label_of, meaning, stepping_of, work_of}
+use Rattle.rx_determinize.proofs.Prelude.{build_in, label_of, meaning, stepping_of, work_of}
 use Rattle.rx_determinize.proofs.AddingLaws.{few_keys}
 use Rattle.rx_determinize.proofs.BuiltLaws.{IsBuilt}
 use Rattle.rx_determinize.proofs.ContinuesLaws.{continues_twice, refused_later}
 use Rattle.rx_determinize.proofs.LimitLaws.{Begins, begun_entering, built_of, fits, has_entries, not_unsupported}
 use Rattle.rx_determinize.proofs.LimitLaws.{refused, states_in}
-use Rattle.rx_determinize.proofs.config.Config.build_rows.Goals.{In_ok-construction, In_ok-explore}
-use Rattle.rx_determinize.proofs.config.Config.build_rows.Goals as goal
+use Rattle.rx_determinize.proofs.rows.determinize.Goals.{In_ok-construction, In_ok-explore}
+use Rattle.rx_determinize.proofs.rows.determinize.Goals as goal
 
--- ---- the table is begun for the construction
+-- ---- the NFA is supported, and the table is begun for the construction
+
+supported : (c : In_ok-construction) → IsSupported (build_in (meaning c.args.nfa.now) c.args.settled.now c.args.dfa.now)
+supported c =
+    let b = build_in (meaning c.args.nfa.now) c.args.settled.now c.args.dfa.now in
+    subst (λ answer. MatchBool answer (IsUnsupported b) (IsSupported b)) c.if-is_unsupported.false
+    (c.is_unsupported.ensures b refl refl)
 
 begins : (c : In_ok-construction) (byte_classes : Bool)
-    → IsBegunWith (meaning c.args.nfa.now) c.args.self.now byte_classes c.args.dfa.now
-    → Begins (work_of c.in_ok-construction.construction) (meaning c.args.nfa.now) c.args.self.now byte_classes
+    → IsBegunWith (meaning c.args.nfa.now) c.args.settled.now byte_classes c.args.dfa.now
+    → Begins (work_of c.in_ok-construction.construction) (meaning c.args.nfa.now) c.args.settled.now byte_classes
     c.args.dfa.now
 begins c byte_classes begun = grind (arith, common_steps)
 
@@ -44,7 +50,7 @@ returns-in_err-set_starts-clause-err c =
     let prior = (goal.at.returns-in_err-set_starts-clause-err c).In_ok-construction in
     rw (p.1, p.2)
     (λ byte_classes begun.
-    refused (begins prior byte_classes begun) c.in_err-set_starts.field-0.0.kind (not_unsupported c.requires.supported)
+    refused (begins prior byte_classes begun) c.in_err-set_starts.field-0.0.kind (not_unsupported (supported prior))
     c.in_err-set_starts.ensures.err)
 
 pub returns-in_err-explore-clause-err : goal.returns-in_err-explore-clause-err
@@ -54,7 +60,7 @@ returns-in_err-explore-clause-err c =
     let kind = c.in_err-explore.field-0.0.kind in
     rw (p.1, p.2)
     (λ byte_classes begun.
-    refused (begins prior byte_classes begun) kind (not_unsupported c.requires.supported)
+    refused (begins prior byte_classes begun) kind (not_unsupported (supported prior))
     (refused_later c.in_ok-set_starts.ensures.later kind c.in_err-explore.ensures.err))
 
 pub matches-requires-clause-count : goal.matches-requires-clause-count
@@ -82,7 +88,7 @@ pub returns-clause-rest : goal.returns-clause-rest
 returns-clause-rest c = (later (goal.at.returns-clause-rest c).In_ok-explore).over
 
 built : (c : In_ok-explore) {byte_classes : Bool}
-    → Begins (work_of c.in_ok-construction.construction) (meaning c.args.nfa.now) c.args.self.now byte_classes
+    → Begins (work_of c.in_ok-construction.construction) (meaning c.args.nfa.now) c.args.settled.now byte_classes
     c.args.dfa.now → IsBuilt (work_of c.explore.new.self) c.explore.new.dfa
 built c x = built_of x (later c) c.in_ok-explore.ensures.entering c.args.nfa.now.patterns
 
@@ -96,7 +102,7 @@ pub returns-clause-fits : goal.returns-clause-fits
 returns-clause-fits c byte_classes begun =
     let prior = goal.at.returns-clause-fits c in
     let x = begins prior.In_ok-construction byte_classes begun in
-    fits x (later prior.In_ok-explore) (built prior.In_ok-explore x) c.requires.supported
+    fits x (later prior.In_ok-explore) (built prior.In_ok-explore x) (supported prior.In_ok-construction)
 
 pub returns-in_err-construction-clause-err : goal.returns-in_err-construction-clause-err
 returns-in_err-construction-clause-err c = grind (arith, common_steps, err_from_is_err_and)

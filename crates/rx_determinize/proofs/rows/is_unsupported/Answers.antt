@@ -1,7 +1,7 @@
 use Rattle.rx_spec.proofs.Prelude.{arith, common_steps}
 use Rattle.rx_determinize.proofs.Prelude.{meaning}
 use Rattle.rx_expr.proofs.UnicodeWords.{unicode_told}
-use Rattle.rx_determinize.proofs.config.is_unsupported.Goals as goal
+use Rattle.rx_determinize.proofs.rows.is_unsupported.Goals as goal
 
 pub returns-then-contains_word_unicode : goal.returns-then-contains_word_unicode
 returns-then-contains_word_unicode c b nfa quit =
