@@ -12,11 +12,10 @@ use crate::least::Least;
 use crate::table_file::{Form, TableFile};
 use crate::{Fault, words};
 use rx_dense::DFA;
-use rx_dense_image::DenseRead;
+use rx_image::{DenseRead, SparseRead};
 use rx_equal::{Verdict, check_links, check_parting, compare};
 use rx_search::Automaton;
 use rx_sparse::DFA as SparseDFA;
-use rx_sparse_image::SparseRead;
 use std::time::Instant;
 
 /// The most patterns of a table that is compared.

@@ -11,7 +11,7 @@ use crate::least::Least;
 use crate::{Fault, words};
 use images::make_image;
 use rx_dense::{DFA, OwnedDFA};
-use rx_dense_image::{DenseRead, DenseWrite};
+use rx_image::{DenseRead, DenseWrite};
 use std::time::{Duration, Instant};
 
 /// Measures what the words ask for.

@@ -9,7 +9,7 @@ mod tables;
 
 use crate::{Fault, words};
 use rx_refine::{Incoming, Steps, laws, refine};
-use rx_steps::Tally;
+use rx_spec::Tally;
 use std::io;
 use std::time::Instant;
 use tables::Kind;

@@ -6,7 +6,7 @@ ghost use Rattle.rx_dense.specs.Facts.{IsSoundLayout};
 ghost use Rattle.rx_dense_image.specs.Images.{text};
 
 use rx_dense::{DFA, OwnedDFA};
-use rx_dense_image::{DenseRead, DenseWrite};
+use rx_image::{DenseRead, DenseWrite};
 use rx_wire::DeserializeError;
 use std::alloc::{AllocError, Global};
 

@@ -2,7 +2,7 @@
 
 ghost use Rattle.std.specs.Prelude.{◌≡◌, IfOk, IfSome, List};
 ghost use Rattle.rx_spec.specs.Expressions.{Expression};
-ghost use Rattle.rx_spec.specs.Plans.{Plan as SearchPlan, outcome};
+ghost use Rattle.rx_plan.specs.Plans.{Plan as SearchPlan, outcome};
 ghost use Rattle.rx_spec.specs.Queries.{IsFit, LiesIn};
 ghost use Rattle.rx_base.specs.Input.{query_of};
 ghost use Rattle.rx_regex.specs.Tables.{IsOf};

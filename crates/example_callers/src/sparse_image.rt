@@ -7,7 +7,7 @@ ghost use Rattle.rx_sparse_image.specs.Images.{text};
 use rx_base::Input;
 use rx_search::Automaton;
 use rx_sparse::DFA;
-use rx_sparse_image::{SparseRead, SparseWrite};
+use rx_image::{SparseRead, SparseWrite};
 use rx_wire::DeserializeError;
 use std::alloc::{AllocError, Global};
 

@@ -12,7 +12,7 @@ ghost use Rattle.rx_dense.specs.Facts.{IsSoundLayout};
 
 use rx_base::{Anchored, Input, MatchError, PatternID, PatternSet};
 use rx_dense::{DFA, OwnedDFA};
-use rx_dense_image::DenseRead;
+use rx_image::DenseRead;
 use rx_search::Automaton;
 use rx_wire::DeserializeError;
 use std::alloc::AllocError;

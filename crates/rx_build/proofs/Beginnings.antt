@@ -4,8 +4,8 @@ use Rattle.rx_spec.proofs.Prelude.{sym, ap₂, subst, ◌∙◌, common_steps, B
 use Rattle.rx_spec.specs.Classes.{quit_set}
 use Rattle.rx_spec.specs.declared.Form.{Form}
 use Rattle.rx_dense.specs.Layouts.{Layout}
-use Rattle.rx_build_error.specs.Refusals.{IsRefused, TableRefused}
-use Rattle.rx_build_error.specs.declared.BuildErrorKind.{BuildErrorKind}
+use Rattle.rx_expr.specs.Refusals.{IsRefused, TableRefused}
+use Rattle.rx_expr.specs.declared.build_error.BuildErrorKind.{BuildErrorKind}
 use Rattle.rx_determinize.specs.Begun.{IsBegunWith, build_in, limits_of as own_limits}
 use Rattle.rx_determinize.specs.declared.settled.Settled as determinize
 use Rattle.rx_build.specs.Built.{begun, build_of, limits_of, settings_with}

@@ -5,7 +5,7 @@ use Rattle.rx_spec.proofs.Prelude.{inl, inr, cases_eq, true≢false, get_or-map,
 use Rattle.rx_spec.proofs.Prelude.{IsWord, IsPower, node_at, Anchored, supports, dead_state, Table, IsTable}
 use Rattle.rx_spec.specs.Builds as builds
 use Rattle.rx_spec.specs.declared.Start.{Start}
-use Rattle.lemmas_walks.proofs.SilentRows.{zero_is_silent}
+use Rattle.rx_lemmas.proofs.SilentRows.{zero_is_silent}
 use Rattle.rx_dense.specs.Layouts.{Layout, table_of}
 use Rattle.rx_minimize.specs.Minimized.{IsMinimized}
 use Rattle.rx_order.specs.Ordering.{IsAccelerated}

@@ -6,7 +6,7 @@ use Rattle.rx_spec.specs.Classes.{quit_set}
 use Rattle.rx_spec.specs.Expressions.{Expression}
 use Rattle.rx_spec.specs.Labels.{Gives, AreToldApart, IsLeastFor}
 use Rattle.rx_spec.specs.Nfas.{Nfa, is_always_start_anchored}
-use Rattle.rx_spec.specs.Plans.{Cause}
+use Rattle.rx_spec.specs.Causes.{Cause}
 use Rattle.rx_spec.specs.Power.{IsPower}
 use Rattle.rx_spec.specs.Queries.{Anchored}
 use Rattle.rx_spec.specs.Starts.{supports}

@@ -4,7 +4,7 @@ ghost use Rattle.std.specs.Prelude.{◌≡◌, Bool, IfErr, None, OnOk};
 ghost use Rattle.rx_spec.specs.Causes.{BuildFits};
 ghost use Rattle.rx_spec.specs.declared.MatchKind.TheVariants.{LeftmostFirst};
 ghost use Rattle.rx_expr.specs.Nfa.{meaning};
-ghost use Rattle.rx_build_error.specs.Refusals.{IsRefused, TableRefused};
+ghost use Rattle.rx_expr.specs.Refusals.{IsRefused, TableRefused};
 ghost use Rattle.rx_determinize.specs.Begun.{IsBegun, IsBegunWith, build_in, limits_of};
 ghost use Rattle.rx_build.specs.Determinized.{IsDeterminized};
 

@@ -14,6 +14,6 @@ pub mod dense;
 pub mod determinize;
 pub mod laws;
 
-pub use rx_build_error::{BuildError, BuildErrorKind};
+pub use rx_expr::build_error::{BuildError, BuildErrorKind};
 pub use rx_minimize::Minimizer;
 pub use rx_order::{Remappable, Remapper, accelerate, shuffle};

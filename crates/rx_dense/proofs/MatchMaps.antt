@@ -8,7 +8,7 @@ use Rattle.std.specs.BTreeMap.{insert_entry}
 use Rattle.std.specs.Map.{lookup}
 use Rattle.std.proofs.lemmas.Bool.{cases_Bool}
 use Rattle.std.proofs.lemmas.Map.Entries.{lookup_head, lookup_tail}
-use Rattle.lemmas_walks.proofs.Firsts.{Contains-here, Contains-nil, Contains-there}
+use Rattle.rx_lemmas.proofs.Firsts.{Contains-here, Contains-nil, Contains-there}
 
 -- ---- numbers in a list
 

@@ -6,7 +6,7 @@ use Rattle.rx_spec.proofs.Prelude.{and_parts, eqb-true, lt-ltb, ltb-true, cases_
 use Rattle.rx_spec.proofs.Prelude.{mod-mul-add, mul-le, row_fits, id_of, row_of, Anchored, max_id}
 use Rattle.std.proofs.Math.Nat.{le-mul_of_pos_right}
 use Rattle.std.proofs.lemmas.List.Sums.{passes_at_first}
-use Rattle.lemmas_tables.proofs.Ids.{row_of-id_of, id_of-dense, dense_are_ids}
+use Rattle.rx_lemmas.proofs.Ids.{row_of-id_of, id_of-dense, dense_are_ids}
 use Rattle.rx_search.specs.Starts.{IsId}
 use Rattle.rx_dense.specs.Layouts.{Layout, IsRowId, AreRows, AreStarts, stride, row_count, ids_of, is_row_id, column}
 use Rattle.rx_dense.specs.Layouts.{context_number, mode_place, start_entries}

@@ -6,7 +6,7 @@ use Rattle.rx_spec.proofs.Prelude.{replicate, pow-le-pow_right, cases_lt, get_or
 use Rattle.rx_spec.proofs.Prelude.{get_or_past, get_or-take, pow_pos, mod-mul-add, mul-le, length-map-range_with_len}
 use Rattle.rx_spec.proofs.Prelude.{start_of_byte, max_id}
 use Rattle.std.proofs.lemmas.List.{length-set}
-use Rattle.lemmas_tables.proofs.ClassNumbers.{stride_holds, stride_within}
+use Rattle.rx_lemmas.proofs.ClassNumbers.{stride_holds, stride_within}
 use Rattle.rx_base.specs.ByteClasses.{AreClasses, alphabet_len}
 use Rattle.rx_dense.specs.Layouts.{Layout, IsRowId, AreRows, AreStarts, AreLists, IsShaped, ids_of, row_count}
 use Rattle.rx_dense.specs.Layouts.{start_entries, stride}

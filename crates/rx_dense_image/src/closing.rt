@@ -299,7 +299,7 @@ fn accels_stand(parts: &Parts) -> bool
 }
 
 /// Whether all tests of the parts together succeed.
-pub(crate) fn is_closed(alloc: Global, parts: &Parts, sound: bool) -> Result<bool, DeserializeError>
+pub fn is_closed(alloc: Global, parts: &Parts, sound: bool) -> Result<bool, DeserializeError>
     requires read { IsRead (layout_of parts.now) }
     requires sound { sound ≡ are_entries (rows_of (layout_of parts.now)) }
     ensures exactly { IfOk result (λ closed. closed ≡ is_closed (layout_of parts.now)) }

@@ -9,8 +9,8 @@ ghost use Rattle.rx_dense.specs.Facts.{IsSoundLayout};
 ghost use Rattle.rx_dense_image.specs.Images.{IsWhole, reads, text};
 
 /// An image of a layout that can be read (`IsWhole`) is read as that layout with the image's length, in either byte
-/// order and whatever bytes follow. Every table that [`DenseRead::from_bytes`](crate::DenseRead::from_bytes) returns
-/// has such a layout.
+/// order and whatever bytes follow. Every table that `DenseRead::from_bytes` of `rx_image` returns has
+/// such a layout.
 pub fn images_are_read_again()
     ensures { (order : Order) (l : Layout) → IsWhole l → (rest : List ℕ)
         → reads (text order l ++ rest) ≡ Ok (l, length (text order l)) }

@@ -1,11 +1,11 @@
-//! Images of dense tables: writes a table as bytes, in either byte order, and reads it again.
+//! The parts of images of dense tables: what is read, tested and written.
 //!
-//! [`DenseWrite`] writes an image. [`DenseRead::from_bytes`] reads one, in whichever byte order it is. What
-//! images of sparse tables have too is in `rx_image_parts`.
+//! `rx_image` reads and writes whole images by these calls. What images of sparse tables have too is in
+//! `rx_image_parts`.
 //!
 //! The contract: `text` in `specs/Images.antt` defines each byte of a table's image, and `reads` defines which table
-//! some bytes spell, or which test they fail first. Writers write exactly `text`, and the reader returns exactly
-//! `reads`. A table that is read is sound, so it can be searched at once, whoever wrote the image.
+//! some bytes spell, or which test they fail first. [`put_image`] writes exactly `text`. [`split_parts`] and
+//! [`is_closed`] are the parts of `reads`. [`laws`]: an image is read as the table that was written.
 #![tactic(auto)]
 
 mod bulk;
@@ -19,9 +19,9 @@ mod put;
 mod read;
 mod rows;
 mod start_table;
-mod write;
 
+pub use closing::is_closed;
 pub use head::split_dense_head;
 pub use parts::{AccelImage, AccelsImage, SpecialImage};
-pub use read::DenseRead;
-pub use write::DenseWrite;
+pub use put::{image_len, put_image};
+pub use read::split_parts;

@@ -214,7 +214,7 @@ fn put_marks<E: Endian, T: WordStore>(dfa: &DFA<T>, dst: &mut [u8], at: usize) -
 }
 
 /// The length of an image in bytes.
-pub(crate) fn image_len<T: WordStore>(dfa: &DFA<T>) -> usize
+pub fn image_len<T: WordStore>(dfa: &DFA<T>) -> usize
     ensures value { result ≡ image_len dfa.now }
     ensures text { (order : Order) → length (text order dfa.now) ≡ result }
 {
@@ -224,7 +224,7 @@ pub(crate) fn image_len<T: WordStore>(dfa: &DFA<T>) -> usize
 }
 
 /// Writes an image at the front of `dst` and returns its length.
-pub(crate) fn put_image<E: Endian, T: WordStore>(dfa: &DFA<T>, dst: &mut [u8]) -> usize
+pub fn put_image<E: Endian, T: WordStore>(dfa: &DFA<T>, dst: &mut [u8]) -> usize
     requires { image_len dfa.now ≤ length dst.old }
     ensures len { length dst.new ≡ length dst.old }
     ensures place { result ≡ image_len dfa.now }

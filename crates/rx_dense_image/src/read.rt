@@ -1,19 +1,17 @@
-//! Reads whole images.
+//! Reads the parts of whole images.
 
 ghost use Rattle.std.specs.Prelude.{◌≡◌, IfOk};
 ghost use Rattle.rx_wire.specs.Kinds.{Gives};
-ghost use Rattle.rx_dense.specs.Facts.{IsSoundLayout};
 ghost use Rattle.rx_dense.specs.Parts.{layout_of};
 ghost use Rattle.rx_dense_image.specs.Rows.{are_entries, rows_of};
-ghost use Rattle.rx_dense_image.specs.Images.{IsRead, IsWhole, joined, parts_at, reads};
+ghost use Rattle.rx_dense_image.specs.Images.{IsRead, joined, parts_at};
 
-use crate::closing::is_closed;
 use crate::head::split_dense_head;
 use crate::marks::{Marks, split_marks};
 use crate::pattern_lists::{PatternLists, split_pattern_lists};
 use crate::rows::{Rows, split_rows};
 use crate::start_table::{StartTable, split_start_table};
-use rx_dense::{DFA, Flags, OwnedDFA, Parts};
+use rx_dense::{Flags, Parts};
 use rx_wire::DeserializeError;
 use std::alloc::Global;
 
@@ -42,25 +40,9 @@ fn parts_of(flags: Flags, rows: Rows, table: StartTable, lists: PatternLists, ma
     }
 }
 
-/// Reads dense tables: `DFA::<Vec<u32>>::from_bytes(alloc, bytes)`.
-pub trait DenseRead {
-    /// Reads the table that `slice` begins with and returns it with the length of its image. The image may be in either
-    /// byte order. At most seven NULs before the label are passed over; they count for the length.
-    ///
-    /// The table is sound, and its image is read again as the same table (`IsWhole`).
-    ///
-    /// # Errors
-    ///
-    /// The kind of the first test that fails, or `Memory` if memory runs out.
-    fn from_bytes(alloc: Global, slice: &[u8]) -> Result<(OwnedDFA, usize), DeserializeError>
-        ensures read { Gives (λ x. (x.0, x.1)) result (reads slice.now) }
-        ensures whole { IfOk result (λ x. IsWhole x.0) }
-        ensures sound { IfOk result (λ x. IsSoundLayout x.0) };
-}
-
 /// The parts of a table, whether each word of its rows passes its test, and the bytes after the image.
 #[tactic(auto, unfolding(crate::specs::Images::parts_at))]
-fn split_parts(alloc: Global, bytes: &[u8]) -> Result<((Parts, bool), &[u8]), DeserializeError>
+pub fn split_parts(alloc: Global, bytes: &[u8]) -> Result<((Parts, bool), &[u8]), DeserializeError>
     ensures read { Gives (λ x. (layout_of x.0.0, x.1.now)) result (parts_at bytes.now) }
     ensures parts { IfOk result (λ x. IsRead (layout_of x.0.0)) }
     ensures sound { IfOk result (λ x. x.0.1 ≡ are_entries (rows_of (layout_of x.0.0))) }
@@ -72,25 +54,4 @@ fn split_parts(alloc: Global, bytes: &[u8]) -> Result<((Parts, bool), &[u8]), De
     let (marks, rest) = split_marks(alloc, order, rows.words.len(), rest)?;
     let parts = parts_of(flags, rows, table, lists, marks);
     Ok(((parts, sound), rest))
-}
-
-/// The table that some bytes begin with, and the length of its image.
-#[tactic(auto, unfolding(crate::specs::Images::reads))]
-fn read_table(alloc: Global, bytes: &[u8]) -> Result<(OwnedDFA, usize), DeserializeError>
-    ensures read { Gives (λ x. (x.0, x.1)) result (reads bytes.now) }
-    ensures whole { IfOk result (λ x. IsWhole x.0) }
-{
-    let ((parts, sound), rest) = split_parts(alloc, bytes)?;
-    if !is_closed(alloc, &parts, sound)? {
-        return Err(DeserializeError::generic("the parts don't fit each other"));
-    }
-    let size = bytes.len().saturating_sub(rest.len());
-    let table = DFA::from_parts(parts).with_marks()?;
-    Ok((table, size))
-}
-
-impl DenseRead for DFA<Vec<u32>> {
-    fn from_bytes(alloc: Global, slice: &[u8]) -> Result<(OwnedDFA, usize), DeserializeError> {
-        read_table(alloc, slice)
-    }
 }

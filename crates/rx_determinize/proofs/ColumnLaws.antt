@@ -5,8 +5,8 @@ use Rattle.rx_spec.proofs.Prelude.{length-map, length_push, get_or-map-range_wit
 use Rattle.rx_spec.proofs.Prelude.{next_node, class_by, column_by, ends_class, representatives, Nfa}
 use Rattle.rx_determinize.proofs.Prelude.{AreClasses, AreUnits, Layout, Unit, alphabet_len, classes_of, column, ends_of}
 use Rattle.rx_determinize.proofs.Prelude.{ends_of-class, unit_number, unit_of}
-use Rattle.lemmas_tables.proofs.ClassNumbers.{representatives_counted, representative_class, representative_below}
-use Rattle.lemmas_tables.proofs.Classes.{column_leads}
+use Rattle.rx_lemmas.proofs.ClassNumbers.{representatives_counted, representative_class, representative_below}
+use Rattle.rx_lemmas.proofs.Classes.{column_leads}
 
 column_of_byte : (l : Layout) (unit : ℕ) → unit < 256 → column l unit ≡ slice_index l.classes unit
 column_of_byte l unit h = grind (arith, common_steps, nat_tests)

@@ -3,7 +3,7 @@ use Rattle.rx_spec.proofs.Prelude.{◌≡◌, ℕ, ◌+◌, ◌<◌, ◌||◌, B
 use Rattle.rx_spec.proofs.Prelude.{arith, fill_by_all, contains, class_by, ends_class, parts, Nfa}
 use Rattle.rx_determinize.proofs.Prelude.{class_by-alike, classes_of, rows_part}
 use Rattle.std.proofs.Math.Bool.{or_comm}
-use Rattle.lemmas_tables.proofs.ClassNumbers.{class_of_all}
+use Rattle.rx_lemmas.proofs.ClassNumbers.{class_of_all}
 
 pub classes_are : (nfa : Nfa) (quit : ℕ) (byte_classes : Bool) (classes : List ℕ) → length classes ≡ 256
     → ((b : ℕ) → b < 256 → slice_index classes b ≡ class_by (ends_class nfa quit byte_classes) b)

@@ -10,8 +10,8 @@ use Rattle.rx_determinize.proofs.Prelude.{NamesPatterns, Settled, SpellStates, S
 use Rattle.rx_determinize.proofs.Prelude.{classes_of, keys_in, limits_of, none_met, shaped_initial, start_entries}
 use Rattle.rx_determinize.proofs.Prelude.{states_of, stride}
 use Rattle.rx_spec.specs.Sizes as sizes
-use Rattle.lemmas_tables.proofs.Sizes.{determinizer_grows, exceeds_exactly, ids_grow, labels_grow, table_grows}
-use Rattle.rx_build_error.specs.Refusals.{IsRefused, TableRefused}
+use Rattle.rx_lemmas.proofs.Sizes.{determinizer_grows, exceeds_exactly, ids_grow, labels_grow, table_grows}
+use Rattle.rx_expr.specs.Refusals.{IsRefused, TableRefused}
 use Rattle.rx_determinize.proofs.ContinuesLaws.{same_keys}
 use Rattle.rx_determinize.proofs.BuiltLaws.{IsBuilt, has_states, reached, states_count}
 use Rattle.rx_determinize.proofs.StartLaws.{working_begun, written_begun}

@@ -9,7 +9,7 @@ use Rattle.rx_determinize.proofs.Prelude.{IsStepped, IsWorking, IsWrittenOver, K
 use Rattle.rx_determinize.proofs.Prelude.{Stepping, Work, alphabet_len, keys_in, no_more, states_of, stepped, stride}
 use Rattle.rx_determinize.proofs.Prelude.{unit_of, zero_id}
 use Rattle.rx_determinize.proofs.FillingLaws.{adds_over, grows_by}
-use Rattle.rx_build_error.specs.declared.BuildError.{BuildError}
+use Rattle.rx_expr.specs.declared.build_error.BuildError.{BuildError}
 use Rattle.rx_determinize.proofs.ContinuesLaws.{continues_grown, serves_later}
 use Rattle.rx_determinize.proofs.WorkListLaws.{interned_row, reached_step}
 use Rattle.rx_determinize.proofs.ColumnLaws.{unit_in}

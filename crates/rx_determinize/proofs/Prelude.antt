@@ -1,12 +1,12 @@
 -- What proofs take from other modules, in one module.
-pub use Rattle.lemmas_walks.proofs.QuitSets.{contains-empty}
-pub use Rattle.lemmas_walks.proofs.Words.{IsWord-append, IsWord-cons, IsWord-head, IsWord-nil, IsWord-tail, run-append}
-pub use Rattle.lemmas_walks.proofs.Words.{run-cons, run-nil, run-within}
+pub use Rattle.rx_lemmas.proofs.ByteSets.{contains-empty}
+pub use Rattle.rx_lemmas.proofs.Words.{IsWord-append, IsWord-cons, IsWord-head, IsWord-nil, IsWord-tail, run-append}
+pub use Rattle.rx_lemmas.proofs.Words.{run-cons, run-nil, run-within}
 pub use Rattle.rx_base.proofs.Classes.{class_by-alike, ends_of-class}
 pub use Rattle.rx_base.specs.ByteClasses.{AreClasses, alphabet_len, ends_of}
 pub use Rattle.rx_base.specs.Search.{mode_of}
 pub use Rattle.rx_base.specs.Unit.{unit_number}
-pub use Rattle.rx_build_error.specs.declared.BuildErrorKind.{BuildErrorKind}
+pub use Rattle.rx_expr.specs.declared.build_error.BuildErrorKind.{BuildErrorKind}
 pub use Rattle.rx_dense.proofs.Rows.{IsId-row_id, column_within, multiple_below, no_more}
 pub use Rattle.rx_dense.proofs.Shaped.{rows_kept, rows_set, shaped_initial, zero_at, zero_id}
 pub use Rattle.rx_dense.specs.Builder.{Beginning, IsCopied, IsOutside, initial, pattern_lists, with_next, with_row}

@@ -3,7 +3,7 @@ use Rattle.rx_spec.proofs.Prelude.{common_steps, ◌≡◌, ℕ, ◌*◌, ◌/�
 use Rattle.rx_spec.proofs.Prelude.{mod-mul-add, pow_pos}
 use Rattle.rx_determinize.proofs.Prelude.{AreRows, IsRowId, Layout, ids_of, multiple_below, no_more, row_count, stride}
 use Rattle.rx_search.specs.Starts.{IsId}
-use Rattle.lemmas_tables.proofs.Ids.{row_of-id_of, id_of-dense, dense_are_ids}
+use Rattle.rx_lemmas.proofs.Ids.{row_of-id_of, id_of-dense, dense_are_ids}
 
 -- the row of the id of a row
 pub row_of-row : (l : Layout) (row : ℕ) → row < row_count l → row_of (ids_of l) (row * stride l) ≡ row

@@ -19,7 +19,7 @@ use Rattle.rx_determinize.proofs.CellLaws.{one_place}
 use Rattle.rx_determinize.proofs.ContinuesLaws.{continues_over, serves_later}
 use Rattle.rx_determinize.proofs.FillingLaws.{written_kept}
 use Rattle.rx_dense.proofs.StartNumbers.{context_at as start_at}
-use Rattle.lemmas_walks.proofs.HalfSearches.{has_yes}
+use Rattle.rx_lemmas.proofs.HalfSearches.{has_yes}
 
 -- ---- the place of a start entry
 

@@ -3,7 +3,7 @@ use Rattle.std.specs.Prelude.{ℕ, ◌≡◌, ◌<◌, ◌≤◌, ◌+◌, ◌*�
 use Rattle.rx_spec.specs.Causes.{max_id}
 use Rattle.rx_dense.specs.Builder.{with_row}
 use Rattle.rx_dense.specs.Layouts.{Layout, stride}
-use Rattle.rx_build_error.specs.declared.BuildErrorKind.{BuildErrorKind}
+use Rattle.rx_expr.specs.declared.build_error.BuildErrorKind.{BuildErrorKind}
 use Rattle.rx_determinize.specs.WorkLists.{Interns}
 use Rattle.rx_spec.specs.Builds.{IsReached}
 use Rattle.rx_stepper.specs.Keys.{label_of}

@@ -8,7 +8,7 @@ use Rattle.rx_base.specs.Unit.{unit_number}
 use Rattle.rx_dense.specs.Layouts.{Layout, AreRows}
 use Rattle.rx_stepper.specs.Stepping.{HasOneKeyEach, SpellStates, Stepping}
 use Rattle.rx_stepper.specs.Steppers.{stepping_of}
-use Rattle.rx_build_error.specs.declared.BuildErrorKind.{BuildErrorKind}
+use Rattle.rx_expr.specs.declared.build_error.BuildErrorKind.{BuildErrorKind}
 use Rattle.rx_determinize.specs.Begun.{classes_of}
 use Rattle.rx_determinize.specs.Building.{IsStartedOver}
 use Rattle.rx_determinize.specs.declared.settled.Settled.{Settled}

@@ -9,7 +9,7 @@ use Rattle.rx_spec.specs.States.{State}
 use Rattle.rx_spec.specs.declared.Start.{Start}
 use Rattle.rx_dense.specs.Layouts.{Layout, machine_of, row_count, stride}
 use Rattle.rx_stepper.specs.Stepping.{Stepping}
-use Rattle.rx_build_error.specs.declared.BuildErrorKind.{BuildErrorKind}
+use Rattle.rx_expr.specs.declared.build_error.BuildErrorKind.{BuildErrorKind}
 use Rattle.rx_determinize.specs.declared.settled.Settled.{Settled}
 
 -- what a stepper steps for a table: the table's build, and what keys stand for

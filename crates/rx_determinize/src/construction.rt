@@ -17,8 +17,8 @@ use crate::models::Models;
 use crate::settled::Settled;
 use crate::states::{States, row_id};
 use rx_base::{ByteClasses, StateID, Unit};
-use rx_build_error::BuildError;
 use rx_dense::OwnedDFA;
+use rx_expr::build_error::BuildError;
 use rx_stepper::Stepper;
 use std::alloc::{AllocError, Global};
 

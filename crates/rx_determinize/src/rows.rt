@@ -4,15 +4,15 @@ ghost use Rattle.std.specs.Prelude.{◌≡◌, Bool, IfErr, IfOk, MatchBool, OnO
 ghost use Rattle.rx_spec.specs.Builds.{Build};
 ghost use Rattle.rx_spec.specs.Causes.{BuildFits, IsSupported, IsUnsupported};
 ghost use Rattle.rx_expr.specs.Nfa.{meaning};
-ghost use Rattle.rx_build_error.specs.Refusals.{IsRefused, TableRefused};
+ghost use Rattle.rx_expr.specs.Refusals.{IsRefused, TableRefused};
 ghost use Rattle.rx_determinize.specs.Begun.{IsBegun, IsBegunWith, build_in, limits_of};
 ghost use Rattle.rx_determinize.specs.Building.{HasStates, IsStartedOver};
 
 use crate::construction::Construction;
 use crate::settled::Settled;
 use rx_base::{ByteSet, PatternID, StateID};
-use rx_build_error::{BuildError, BuildErrorKind};
 use rx_dense::OwnedDFA;
+use rx_expr::build_error::{BuildError, BuildErrorKind};
 use rx_expr::thompson::NFA;
 use rx_stepper::Stepper;
 use std::alloc::Global;

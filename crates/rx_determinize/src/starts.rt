@@ -12,8 +12,8 @@ ghost use Rattle.rx_determinize.specs.Filling.{FindsRow, HasEntries, IsEntering,
 
 use crate::construction::Construction;
 use rx_base::{Anchored, PatternID, Start, StateID};
-use rx_build_error::BuildError;
 use rx_dense::OwnedDFA;
+use rx_expr::build_error::BuildError;
 use rx_expr::thompson::NFA;
 
 /// All start contexts, in the order of their entries.

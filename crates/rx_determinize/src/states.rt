@@ -13,8 +13,8 @@ ghost use Rattle.rx_determinize.specs.Adding.{Adds, CanAdd, IsFull, IsWithin, Pa
 
 use crate::settled::Settled;
 use rx_base::{PatternID, StateID};
-use rx_build_error::{BuildError, BuildErrorKind};
 use rx_dense::{AddError, OwnedDFA};
+use rx_expr::build_error::{BuildError, BuildErrorKind};
 use rx_interner::Interner;
 use rx_stepper::Stepper;
 use std::alloc::Global;

@@ -3,7 +3,7 @@ use Rattle.rx_spec.proofs.Prelude.{common_steps, ℕ, ◌≡◌, ◌<◌, ◌≤
 use Rattle.rx_spec.proofs.Prelude.{refl, sym, ◌∙◌, subst, arith, ⊎_elim, cases_lt, is_some, IfSome, Anchored, IsWord}
 use Rattle.rx_spec.proofs.Prelude.{StartError, start_error, Table, IsTable}
 use Rattle.rx_spec.specs.declared.Start.{Start}
-use Rattle.lemmas_walks.proofs.SilentRows.{zero_is_silent}
+use Rattle.rx_lemmas.proofs.SilentRows.{zero_is_silent}
 use Rattle.rx_base.specs.StartConfig.{StartConfig}
 use Rattle.rx_equal.specs.Partings.{AreAlikeBy, NothingParts, answer_at}
 use Rattle.rx_equal.specs.PartingsLaws.{HasOwnStarts, NoStartParts, NothingPartsPassedOn}

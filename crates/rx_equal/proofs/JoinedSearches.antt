@@ -5,7 +5,7 @@ use Rattle.rx_spec.proofs.Prelude.{ap₂, ◌∙◌, common_steps, AreBytes, Anc
 use Rattle.rx_spec.proofs.Prelude.{narrower, unless_split, skip_splits, split_limit, skips_splits, half_unsplit}
 use Rattle.rx_spec.proofs.Prelude.{with_end, joined_search, join}
 use Rattle.rx_spec.specs.declared.Direction.{Direction}
-use Rattle.lemmas_walks.proofs.ReadUnits.{narrower_bytes}
+use Rattle.rx_lemmas.proofs.ReadUnits.{narrower_bytes}
 use Rattle.rx_meaning.proofs.IteratedSearches as iterated
 use Rattle.rx_equal.specs.Partings.{IsModeOf}
 use Rattle.rx_equal.specs.Searches.{MeanTheSame, PairsMeanTheSame, HalfUnsplitAlike, OverlappingUnsplitAlike, JoinAlike}

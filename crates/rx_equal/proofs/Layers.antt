@@ -6,7 +6,7 @@ use Rattle.rx_spec.proofs.Prelude.{Contains-get_or, same_Some, slice_get_within,
 use Rattle.rx_spec.proofs.Prelude.{run, StartError, Table}
 use Rattle.rx_base.specs.StartConfig.{StartConfig}
 use Rattle.rx_base.specs.Unit.{unit_number}
-use Rattle.lemmas_walks.proofs.Words.{IsWord-take, run-nil, run-cons, run-append}
+use Rattle.rx_lemmas.proofs.Words.{IsWord-take, run-nil, run-cons, run-append}
 use Rattle.rx_equal.specs.declared.evidence.Link.{Link}
 use Rattle.rx_equal.specs.declared.evidence.Parting.{Parting}
 use Rattle.rx_equal.specs.Evidence.{RowPair, AreMet, HaveEqualLabels, both, next_pair, next_of, start_pair}

@@ -4,8 +4,8 @@ use Rattle.rx_spec.proofs.Prelude.{[], refl, ap, apâ‚‚, sym, arith, ltb-true, â—
 use Rattle.rx_spec.proofs.Prelude.{Machine, StartError, has_anchored, has_unanchored, mode_error, start_error}
 use Rattle.rx_spec.proofs.Prelude.{start_row, supports, Table, label_after}
 use Rattle.rx_spec.specs.declared.StartKind.{StartKind}
-use Rattle.lemmas_walks.proofs.Firsts.{by_test}
-use Rattle.lemmas_walks.proofs.Words.{IsWord-nil}
+use Rattle.rx_lemmas.proofs.Firsts.{by_test}
+use Rattle.rx_lemmas.proofs.Words.{IsWord-nil}
 use Rattle.rx_equal.specs.Partings.{AreAlikeBy, IsModeOf, NothingParts, answer_at, row_or}
 use Rattle.rx_equal.specs.PartingsLaws.{BothHavePatternStarts, EqualQuitBytes, EqualRefusals, EqualStartKinds}
 use Rattle.rx_equal.specs.PartingsLaws.{NothingPartsItself, NothingPartsTurned, PartingTurned, StartsOfNoPattern}

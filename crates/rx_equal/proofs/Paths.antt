@@ -5,7 +5,7 @@ use Rattle.rx_spec.proofs.Prelude.{Table}
 use Rattle.std.proofs.lemmas.List.{reverse-append}
 use Rattle.rx_spec.specs.declared.Unit.{Unit}
 use Rattle.rx_base.specs.Unit.{unit_number}
-use Rattle.lemmas_walks.proofs.Words.{IsWord-cons, run-nil, run-cons}
+use Rattle.rx_lemmas.proofs.Words.{IsWord-cons, run-nil, run-cons}
 use Rattle.rx_equal.specs.declared.evidence.Link.{Link}
 use Rattle.rx_equal.specs.Evidence.{RowPair, next_pair, next_of}
 use Rattle.rx_base.specs.StartConfig.{StartConfig}

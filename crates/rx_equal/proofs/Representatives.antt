@@ -10,7 +10,7 @@ use Rattle.rx_equal.specs.Places.{HaveNexts}
 use Rattle.rx_equal.proofs.Tests.{EachBelow, below_more, each_contained}
 use Rattle.rx_equal.specs.Pairs.{IsPairOf, rows_of}
 use Rattle.rx_equal.specs.declared.pairs.Pair.{Pair}
-use Rattle.lemmas_walks.proofs.ReadUnits.{All-got}
+use Rattle.rx_lemmas.proofs.ReadUnits.{All-got}
 
 -- the units below a number have representatives
 pub record RepresentBelow (t u : Table) (units : List Unit) (n : ℕ) : Type 0 where

@@ -3,11 +3,11 @@ use Rattle.rx_spec.proofs.Prelude.{arith, ℕ, ◌≡◌, ◌<◌, ◌≤◌, Op
 use Rattle.rx_spec.proofs.Prelude.{common_steps, IfSome, AreBytes, Query, IsWord, StartError, start_error, start_row}
 use Rattle.rx_spec.proofs.Prelude.{beside, half_search, first_offset, units_of, overlapping, Table, IsTable}
 use Rattle.rx_spec.specs.declared.Direction.{Direction}
-use Rattle.lemmas_walks.proofs.HalfSearches.{Begins, Done, Refused, Started, begins, half_walks, going}
-use Rattle.lemmas_walks.proofs.Overlapping.{overlapping_walks}
-use Rattle.lemmas_walks.proofs.ReadUnits.{beside_is_byte, units_word}
-use Rattle.lemmas_walks.proofs.SilentRows.{IsRow, table_ends_well}
-use Rattle.lemmas_walks.proofs.Words.{IsWord-nil}
+use Rattle.rx_lemmas.proofs.HalfSearches.{Begins, Done, Refused, Started, begins, half_walks, going}
+use Rattle.rx_lemmas.proofs.Overlapping.{overlapping_walks}
+use Rattle.rx_lemmas.proofs.ReadUnits.{beside_is_byte, units_word}
+use Rattle.rx_lemmas.proofs.SilentRows.{IsRow, table_ends_well}
+use Rattle.rx_lemmas.proofs.Words.{IsWord-nil}
 use Rattle.rx_meaning.proofs.AlikeRows.{Alike, walk_alike, overlapping_alike as rows_overlapping}
 use Rattle.rx_base.specs.StartConfig.{StartConfig}
 use Rattle.rx_equal.specs.Partings.{IsModeOf, NothingParts, AreAlikeBy, row_or}

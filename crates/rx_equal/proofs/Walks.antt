@@ -8,7 +8,7 @@ use Rattle.rx_spec.proofs.Prelude.{Contains-push_cases, StartError, start_error,
 use Rattle.std.proofs.Math.Seq.{get_or-append_seam}
 use Rattle.std.proofs.lemmas.List.Quantifiers.{all_pairs_push}
 use Rattle.rx_base.specs.Unit.{unit_number}
-use Rattle.lemmas_walks.proofs.Words.{IsWord-nil, IsWord-cons, IsWord-append, run-nil, run-cons, run-append, run-within}
+use Rattle.rx_lemmas.proofs.Words.{IsWord-nil, IsWord-cons, IsWord-append, run-nil, run-cons, run-append, run-within}
 use Rattle.rx_equal.specs.declared.evidence.Link.{Link}
 use Rattle.rx_equal.specs.Evidence.{RowPair, start_pair, next_pair, next_of, pairs_from, link_pair, AreClosed, AreMet}
 use Rattle.rx_equal.specs.Evidence.{IsReached, AreReached, HaveEqualLabels}

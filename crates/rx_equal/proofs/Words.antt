@@ -4,7 +4,7 @@ use Rattle.rx_spec.proofs.Prelude.{drop, ap, sym, ◌∙◌, subst, drop-cons, R
 use Rattle.rx_spec.proofs.Prelude.{get_or_from_slice_get, same_Some, slice_get, run, Table, label_after, StartError}
 use Rattle.rx_spec.specs.declared.Unit.{Unit}
 use Rattle.rx_base.specs.Unit.{unit_number}
-use Rattle.lemmas_walks.proofs.Words.{run-nil, run-cons}
+use Rattle.rx_lemmas.proofs.Words.{run-nil, run-cons}
 use Rattle.rx_base.specs.StartConfig.{StartConfig}
 use Rattle.rx_equal.specs.Partings.{answer_at, AreAlikeBy}
 use Rattle.rx_equal.specs.Evidence.{RowPair, next_pair, start_pair, both, HaveEqualLabels}

@@ -10,7 +10,7 @@ use Rattle.std.specs.declared.alloc.AllocError.{AllocError}
 use Rattle.rx_spec.specs.declared.Look.{Look}
 use Rattle.rx_spec.specs.Rows as spec
 use Rattle.rx_spec.specs.declared.Direction.{Direction}
-use Rattle.lemmas_walks.proofs.Rows.{Makes, copies-suc, rows_counted}
+use Rattle.rx_lemmas.proofs.Rows.{Makes, copies-suc, rows_counted}
 use Rattle.rx_expr.specs.Compiles.{Adds, maker}
 use Rattle.rx_expr.specs.Nfa.{row_of}
 use Rattle.rx_expr.specs.declared.thompson.nfa.Row.{Row}

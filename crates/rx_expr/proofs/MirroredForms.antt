@@ -1,7 +1,7 @@
 -- What is kept of an expression is kept of its mirror.
 use Rattle.rx_spec.proofs.Prelude.{common_steps, ◌≡◌, ℕ, ◌-◌, ◌^◌, min, refl, Some, None, arith, Expression, mirror}
 use Rattle.rx_spec.proofs.Prelude.{depth, min_len, IsLoopSafe, rows_count}
-use Rattle.lemmas_walks.proofs.Mirrors.{min_len-mirror, IsLoopSafe-mirror}
+use Rattle.rx_lemmas.proofs.Mirrors.{min_len-mirror, IsLoopSafe-mirror}
 use Rattle.rx_expr.specs.Expr.{form_of, IsKept}
 use Rattle.rx_expr.specs.declared.expr.Form.{Form}
 use Rattle.rx_expr.specs.declared.expr.Inner.{Inner}

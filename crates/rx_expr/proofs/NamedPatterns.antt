@@ -5,7 +5,7 @@ use Rattle.rx_spec.proofs.Prelude.{Expression, lead_in, nfa_of, patterns_from, r
 use Rattle.rx_spec.proofs.Prelude.{chained, choice, compile, copies, either, loop, optional, repeated, row_at}
 use Rattle.std.specs.List.{AllByRecursion as Every}
 use Rattle.rx_spec.specs.declared.Direction.{Direction}
-use Rattle.lemmas_walks.proofs.Every.{every-append}
+use Rattle.rx_lemmas.proofs.Every.{every-append}
 use Rattle.rx_expr.specs.NfaRows.{NamesPatterns}
 use Rattle.rx_expr.proofs.PatternRows.{length-entries}
 

@@ -9,3 +9,5 @@ pub mod NfaRows
 pub mod Nfa
 pub mod Compiles
 pub mod Compiler
+-- why a build of a table fails
+pub mod Refusals

@@ -6,6 +6,7 @@
 #![tactic(auto)]
 
 mod bounds;
+pub mod build_error;
 mod expr;
 pub mod thompson;
 

@@ -3,7 +3,7 @@ use Rattle.rx_spec.proofs.Prelude.{common_steps, ◌≡◌, ℕ, ◌+◌, ◌<�
 use Rattle.rx_spec.proofs.Prelude.{List, [], ◌∷◌, ◌++◌, length, refl, ap, sym, ◌∙◌, subst, arith, append_assoc}
 use Rattle.rx_spec.proofs.Prelude.{append-nil, length-append, All-append, All-nil, All, Appends, Consumes, IsAtEnd}
 use Rattle.rx_spec.proofs.Prelude.{Keeps, AreBytes, Anchored, MatchError, Table}
-use Rattle.lemmas_walks.proofs.Overlapping.{overlapping-nil}
+use Rattle.rx_lemmas.proofs.Overlapping.{overlapping-nil}
 use Rattle.rx_stream.specs.Calls.{IsNew, IsUnsupported, is_open}
 use Rattle.rx_stream.specs.Remaining.{events, remaining, now, told, told_now}
 use Rattle.rx_stream.specs.declared.event.StreamEvent.{StreamEvent}

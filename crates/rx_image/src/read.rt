@@ -10,13 +10,12 @@ ghost use Rattle.rx_image.specs.Pairs.{AreWhole, HaveSamePatterns};
 ghost use Rattle.rx_image.specs.Pairs.{dense_at, dense_pair_at, pair_at, reads, sparse_at, sparse_pair_at};
 ghost use Rattle.rx_image.specs.Tables.{AreSound, pair_of};
 
-use crate::Tables;
 use crate::head::{is_same_order, split_head};
+use crate::{DenseRead, SparseRead, Tables};
 use rx_dense::OwnedDFA;
-use rx_dense_image::{DenseRead, split_dense_head};
+use rx_dense_image::split_dense_head;
 use rx_search::Automaton;
 use rx_sparse::DFA;
-use rx_sparse_image::SparseRead;
 use rx_spec::Form;
 use rx_wire::{DeserializeError, Order};
 use std::alloc::Global;

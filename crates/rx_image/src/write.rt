@@ -6,10 +6,9 @@ ghost use Rattle.rx_sparse_image.specs.Images as sparse;
 ghost use Rattle.rx_image.specs.Pairs.{Pair, head_text, text};
 
 use crate::head::{HEAD_LEN, write_head};
+use crate::{DenseWrite, SparseWrite};
 use rx_dense::OwnedDFA;
-use rx_dense_image::DenseWrite;
 use rx_sparse::{ByteStore, DFA};
-use rx_sparse_image::SparseWrite;
 use rx_spec::Form;
 use rx_wire::{BE, LE, Order};
 use std::alloc::{AllocError, Global};

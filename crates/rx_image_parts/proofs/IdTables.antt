@@ -4,7 +4,7 @@ use Rattle.rx_spec.proofs.Prelude.{List, length, filter, slice_index, refl, ap, 
 use Rattle.rx_spec.proofs.Prelude.{both_ways, range_with_len, eq-eqb, le-leb, ne_eqb, and-false, Label, Anchored, Table}
 use Rattle.rx_spec.proofs.Prelude.{is_match, leaving}
 use Rattle.rx_spec.specs.declared.Start.{Start}
-use Rattle.lemmas_tables.proofs.Filters.{every_in_range, filter_alike}
+use Rattle.rx_lemmas.proofs.Filters.{every_in_range, filter_alike}
 use Rattle.rx_dense.specs.declared.special.Special.{Special}
 use Rattle.rx_dense.specs.Specials.{is_accel_id, is_match_id, is_quit_id, is_start_id}
 use Rattle.rx_dense.specs.Layouts.{context_number, mode_place, start_entries}

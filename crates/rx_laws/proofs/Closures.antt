@@ -6,9 +6,9 @@ use Rattle.rx_spec.proofs.Prelude.{closure, firsts, fresh, State, decided_rows, 
 use Rattle.rx_spec.proofs.Prelude.{to_first_match, cut, target, step}
 use Rattle.rx_spec.specs.declared.Look.{Look}
 use Rattle.rx_spec.specs.declared.MatchKind.{MatchKind}
-use Rattle.lemmas_walks.proofs.Firsts.{by_test}
-use Rattle.lemmas_walks.proofs.ShortPaths.{AllNext-more, reach_by-same}
-use Rattle.lemmas_walks.proofs.FirstMatch.{pattern_of-none}
+use Rattle.rx_lemmas.proofs.Firsts.{by_test}
+use Rattle.rx_lemmas.proofs.ShortPaths.{AllNext-more, reach_by-same}
+use Rattle.rx_lemmas.proofs.FirstMatch.{pattern_of-none}
 
 abbrev bound : List Row → ℕ
 bound rows = length rows * length rows

@@ -4,8 +4,8 @@ use Rattle.rx_spec.proofs.Prelude.{Some, None, List, [], ◌∷◌, length, slic
 use Rattle.rx_spec.proofs.Prelude.{flat_map, Reading, holds_at, Expression, min_len, rounds, preferring, up_to, further}
 use Rattle.rx_spec.proofs.Prelude.{ends}
 use Rattle.std.specs.List.{AllByRecursion as Every}
-use Rattle.lemmas_walks.proofs.Every.{every-append, every-weaker, every-flat_map, none_is_nil}
-use Rattle.lemmas_walks.proofs.Ends.{ends_repeat_unbounded}
+use Rattle.rx_lemmas.proofs.Every.{every-append, every-weaker, every-flat_map, none_is_nil}
+use Rattle.rx_lemmas.proofs.Ends.{ends_repeat_unbounded}
 
 -- an end of an expression of a least length, in a place where nothing is left to read
 abbrev Stays : ℕ → ℕ → ℕ → Type 0

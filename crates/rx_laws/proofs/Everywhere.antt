@@ -5,7 +5,7 @@ use Rattle.rx_spec.proofs.Prelude.{State, dead_state, Build, Node, dead, next_no
 use Rattle.rx_laws.specs.Samples.{forward_build, state}
 use Rattle.rx_laws.specs.TableExamples.{everywhere_label, EverywhereIsTable, EverywhereIsSound, EverywhereGives}
 use Rattle.rx_laws.proofs.Computing.{computing}
-use Rattle.lemmas_walks.proofs.QuitSets.{contains-empty}
+use Rattle.rx_lemmas.proofs.ByteSets.{contains-empty}
 
 abbrev empty : Build
 empty = forward_build (Expression.Empty ∷ [])

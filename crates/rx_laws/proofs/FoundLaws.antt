@@ -5,8 +5,8 @@ use Rattle.rx_spec.proofs.Prelude.{cases_lt, slice_get, find, nat_le, range_with
 use Rattle.rx_spec.proofs.Prelude.{reading, admitted, first_of, end_within, candidate, found}
 use Rattle.rx_laws.specs.FoundLaws.{IsAdmitted, IsCandidate}
 use Rattle.rx_spec.specs.declared.Direction.{Direction}
-use Rattle.lemmas_walks.proofs.Ranges.{range_none, none_in_range}
-use Rattle.lemmas_walks.proofs.FoundLaws.{Matches, find_is, candidate_matches, candidate_none, is_found}
+use Rattle.rx_lemmas.proofs.Ranges.{range_none, none_in_range}
+use Rattle.rx_lemmas.proofs.FoundLaws.{Matches, find_is, candidate_matches, candidate_none, is_found}
 
 admitted_from : (q : Query) (n p k : ℕ) → admitted q n p k ≡ true → IsAdmitted q n p k
 admitted_from q n p k e = grind (arith, common_steps, and_parts)

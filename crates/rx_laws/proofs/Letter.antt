@@ -10,7 +10,7 @@ use Rattle.rx_laws.specs.StateExamples.{five_states, three_states, ReachedForwar
 use Rattle.rx_spec.specs.declared.Start.{Start}
 use Rattle.rx_laws.proofs.Computing.{computing}
 use Rattle.rx_laws.proofs.Reached.{Known, known_dead, Steps, reached_within, apart_by_codes}
-use Rattle.lemmas_walks.proofs.Firsts.{Contains-nil, Contains-cases}
+use Rattle.rx_lemmas.proofs.Firsts.{Contains-nil, Contains-cases}
 
 -- An a is a byte.
 a_is_byte : (unit : ℕ) → contains (only 97) unit ≡ true → contains all_bytes unit ≡ true

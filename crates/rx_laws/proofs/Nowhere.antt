@@ -6,7 +6,7 @@ use Rattle.rx_laws.specs.Samples.{state}
 use Rattle.rx_laws.specs.TableExamples.{nowhere, no_byte, NowhereIsTable, NowhereGives, NowhereIsLeast}
 use Rattle.rx_laws.proofs.Computing.{computing}
 use Rattle.rx_laws.proofs.Everywhere.{no_pattern_starts}
-use Rattle.lemmas_walks.proofs.QuitSets.{contains-empty}
+use Rattle.rx_lemmas.proofs.ByteSets.{contains-empty}
 
 pub nowhere_is_table : NowhereIsTable
 nowhere_is_table = grind (arith, common_steps)

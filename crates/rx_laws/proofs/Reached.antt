@@ -6,7 +6,7 @@ use Rattle.rx_spec.proofs.Prelude.{and_parts, eq-eqb, Anchored, run, State, Buil
 use Rattle.rx_spec.proofs.Prelude.{built_entry, IsReached}
 use Rattle.std.specs.List.{AllByRecursion as Every}
 use Rattle.rx_spec.specs.declared.Start.{Start}
-use Rattle.lemmas_walks.proofs.Firsts.{Contains-nil, Contains-cases}
+use Rattle.rx_lemmas.proofs.Firsts.{Contains-nil, Contains-cases}
 
 -- a node that is quit, dead or in the list
 abbrev pub Known : List State → Node → Type 0

@@ -5,7 +5,7 @@ use Rattle.rx_spec.proofs.Prelude.{Maker, straight, chained, choice, copies, opt
 use Rattle.rx_spec.proofs.Prelude.{rows_count, patterns_from, start_of_all}
 use Rattle.rx_laws.specs.EndsLaws.{lowered}
 use Rattle.rx_laws.specs.RowsLaws.{part}
-use Rattle.lemmas_walks.proofs.Rows.{rows_counted, chained_alike, chained_assoc, copies-suc}
+use Rattle.rx_lemmas.proofs.Rows.{rows_counted, chained_alike, chained_assoc, copies-suc}
 
 -- nothing before a part
 straight_first : (maker : Maker) (base next : ℕ) → chained straight maker base next ≡ maker base next

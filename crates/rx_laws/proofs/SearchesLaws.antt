@@ -10,8 +10,8 @@ use Rattle.std.specs.Prelude.{fold}
 use Rattle.std.specs.List.{AllByRecursion as Every}
 use Rattle.rx_laws.specs.SearchesLaws.{keep_first, HalfOfOverlapping, HalfOfOverlappingInBuild}
 use Rattle.rx_spec.specs.declared.Direction.{Direction}
-use Rattle.lemmas_walks.proofs.Firsts.{Contains-here, Contains-there}
-use Rattle.lemmas_walks.proofs.ReadUnits.{units_word}
+use Rattle.rx_lemmas.proofs.Firsts.{Contains-here, Contains-there}
+use Rattle.rx_lemmas.proofs.ReadUnits.{units_word}
 
 -- the answer, where a half match is kept already
 abbrev answer_by : Option HalfMatch → Ending → List Item → HalfAnswer

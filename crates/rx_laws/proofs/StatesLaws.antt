@@ -3,9 +3,9 @@ use Rattle.rx_spec.proofs.Prelude.{◌≡◌, ◌≢◌, ℕ, suc, List, [], ◌
 use Rattle.rx_spec.proofs.Prelude.{AllPairs, ◌↔◌, Facts, both, holds_read, facts_read, fresh, firsts}
 use Rattle.rx_spec.specs.declared.Direction.{Direction}
 use Rattle.rx_spec.specs.declared.Look.{Look}
-use Rattle.lemmas_walks.proofs.Facts.{Cover, kept_both}
-use Rattle.lemmas_walks.proofs.Firsts.{Contains-nil, Apart, Apart-fresh, AllPairs-apart, fresh_within, fresh_keeps}
-use Rattle.lemmas_walks.proofs.Firsts.{fresh_append, fresh_itself}
+use Rattle.rx_lemmas.proofs.Facts.{Cover, kept_both}
+use Rattle.rx_lemmas.proofs.Firsts.{Contains-nil, Apart, Apart-fresh, AllPairs-apart, fresh_within, fresh_keeps}
+use Rattle.rx_lemmas.proofs.Firsts.{fresh_append, fresh_itself}
 
 pub firsts_members : (xs : List ℕ) (x : ℕ) → Contains (firsts xs) x ↔ Contains xs x
 firsts_members xs x = (fresh_within [] xs x, λ c. fresh_keeps [] xs x c (Contains-nil x))

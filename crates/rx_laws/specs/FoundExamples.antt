@@ -5,7 +5,7 @@ use Rattle.rx_spec.specs.Bytes.{only, between}
 use Rattle.rx_spec.specs.Expressions.{Expression}
 use Rattle.rx_spec.specs.Queries.{Anchored, Match}
 use Rattle.rx_spec.specs.Iterating.{FoundMatches, iterate}
-use Rattle.rx_spec.specs.Plans.{outcome}
+use Rattle.rx_plan.specs.Plans.{outcome}
 use Rattle.rx_laws.specs.Samples.{byte, range, text, one_or_more, times, plain, ask, anywhere, match_of}
 use Rattle.rx_laws.specs.Samples.{answers, answers_both}
 use Rattle.rx_spec.specs.declared.Look.{Look}

@@ -4,7 +4,7 @@ use Rattle.rx_spec.specs.Expressions.{Expression}
 use Rattle.rx_spec.specs.Queries.{Anchored, Query, MatchError}
 use Rattle.rx_spec.specs.Builds.{Build, power, build_settings}
 use Rattle.rx_spec.specs.Overlapping.{Item, Ending, OverlappingMatches, none_left, overlapping}
-use Rattle.rx_spec.specs.Plans.{plan_build}
+use Rattle.rx_plan.specs.Plans.{plan_build}
 use Rattle.rx_laws.specs.Samples.{byte, text, forward_build, ask, anywhere, half_of}
 use Rattle.rx_laws.specs.FoundExamples.{samwise_first}
 use Rattle.rx_laws.specs.SearchExamples.{quits_at}

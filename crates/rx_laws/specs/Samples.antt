@@ -10,7 +10,7 @@ use Rattle.rx_spec.specs.States.{State}
 use Rattle.rx_spec.specs.Builds.{Build, power, build_settings}
 use Rattle.rx_spec.specs.HalfSearches.{HalfAnswer, half_search}
 use Rattle.rx_spec.specs.Joining.{Answer, joined_search}
-use Rattle.rx_spec.specs.Plans.{Plan, plan_build, outcome}
+use Rattle.rx_plan.specs.Plans.{Plan, plan_build, outcome}
 use Rattle.rx_spec.specs.declared.Direction.{Direction}
 use Rattle.rx_spec.specs.declared.Form.{Form}
 use Rattle.rx_spec.specs.declared.StartKind.{StartKind}

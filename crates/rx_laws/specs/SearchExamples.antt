@@ -6,7 +6,7 @@ use Rattle.rx_spec.specs.Queries.{Anchored, Query, IsFit, MatchError}
 use Rattle.rx_spec.specs.Nfas.{Nfa, always_match, never_match}
 use Rattle.rx_spec.specs.Builds.{Build}
 use Rattle.rx_spec.specs.HalfSearches.{HalfAnswer}
-use Rattle.rx_spec.specs.Plans.{Plan, plan_build, outcome}
+use Rattle.rx_plan.specs.Plans.{Plan, plan_build, outcome}
 use Rattle.rx_laws.specs.Samples.{byte, range, one_or_more, plain, reverse_build}
 use Rattle.rx_laws.specs.Samples.{ask, anywhere, half_of, search}
 use Rattle.rx_laws.specs.FoundExamples.{samwise_first}

@@ -2,7 +2,7 @@
 use Rattle.std.specs.Prelude.{◌≡◌, ℕ, true, false, List, [], ◌∷◌, length, map, codes}
 use Rattle.rx_spec.specs.States.{State}
 use Rattle.rx_spec.specs.Builds.{Build, Node, dead}
-use Rattle.rx_spec.specs.Plans.{plan_build}
+use Rattle.rx_plan.specs.Plans.{plan_build}
 use Rattle.rx_spec.specs.Sizes.{nfa_size, state_size, determinizer_size, label_total, start_entries, build_stride}
 use Rattle.rx_spec.specs.Sizes.{table_size, sparse_row_size, sparse_size}
 use Rattle.rx_laws.specs.Samples.{byte, text, plain, forward_build, letter_forward, state}

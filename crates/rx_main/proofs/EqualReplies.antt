@@ -2,7 +2,7 @@
 use Rattle.rx_spec.proofs.Prelude.{common_steps, ◌≡◌, ◌⊎◌, inl, inr, List, Result, Ok, Err, refl, sym, ◌∙◌, arith}
 use Rattle.rx_spec.proofs.Prelude.{length, Table}
 use Rattle.rx_equal.specs.Evidence.{RowPair}
-use Rattle.lemmas_tables.proofs.Sublists.{length-within}
+use Rattle.rx_lemmas.proofs.Sublists.{length-within}
 use Rattle.rx_wire.specs.Kinds.{Kind}
 use Rattle.rx_main.specs.Equal.{AreThoseReached, CompareReplies, ImagesReply, IsDifferReply, IsEqualReply}
 use Rattle.rx_main.specs.Equal.{TellsPartingOf}

@@ -2,7 +2,8 @@
 use Rattle.rx_spec.proofs.Prelude.{common_steps, flat_map-append, ◌≡◌, ℕ, zero, suc, ◌+◌, ◌*◌, ◌≤◌, false, List, []}
 use Rattle.rx_spec.proofs.Prelude.{◌∷◌, ◌++◌, length, map, sum_by, None, refl, ap, ◌∙◌, append-nil, arith, Ok, Err}
 use Rattle.rx_spec.proofs.Prelude.{flat_map, range_with_len, length-append, length-map, length-range_with_len}
-use Rattle.rx_spec.proofs.Prelude.{FoundMatches, iterate, outcome, Anchored, Match, MatchError, Query}
+use Rattle.rx_spec.proofs.Prelude.{FoundMatches, iterate, Anchored, Match, MatchError, Query}
+use Rattle.rx_plan.specs.Plans.{outcome}
 use Rattle.std.proofs.Common.{lit≤}
 use Rattle.std.proofs.lemmas.List.Concat.{length-flat_map}
 use Rattle.std.proofs.lemmas.List.Sums.{sum_by-le}

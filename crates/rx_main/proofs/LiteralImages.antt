@@ -7,7 +7,7 @@ use Rattle.rx_image.specs.Pairs.{Pair, reads}
 use Rattle.rx_prefilter.specs.OnlyLiterals.{IsFirstPlace, SearchesFor, literal_match}
 use Rattle.rx_prefilter.specs.declared.only.OnlyLiteral.{OnlyLiteral}
 use Rattle.rx_regex.specs.Pairs.{forward_table, reverse_table}
-use Rattle.rx_seek.specs.Seeking.{IsSought}
+use Rattle.rx_prefilter.specs.Seeking.{IsSought}
 use Rattle.rx_transfer.proofs.Transfers.{consumes_more}
 use Rattle.rx_main.specs.Lines.{Reply}
 use Rattle.rx_main.specs.Search.{SearchReplies, answer_reply, asked, pair_reply, span_reply}

@@ -2,7 +2,8 @@
 -- sparse tables may be refused by a bound, that an image is any of a table of the plan, and that any place and word
 -- that part two tables may be told.
 use Rattle.rx_spec.proofs.Prelude.{common_steps, ◌≡◌, ◌⊎◌, inl, inr, ℕ, ◌+◌, Bool, true, false, List, [], length}
-use Rattle.rx_spec.proofs.Prelude.{Option, Result, Ok, Err, refl, sym, ap, ◌∙◌, arith, subst, Expression, Plan, Cause}
+use Rattle.rx_spec.proofs.Prelude.{Option, Result, Ok, Err, refl, sym, ap, ◌∙◌, arith, subst, Expression, Cause}
+use Rattle.rx_plan.specs.Plans.{Plan}
 use Rattle.rx_spec.proofs.Prelude.{Query, Match, MatchError}
 use Rattle.rx_plan.specs.Plan.{plan_of}
 use Rattle.rx_regex.specs.Find.{PlanFits, PlanRefused}

@@ -1,15 +1,16 @@
 -- A refusal tells its cause, and no plan is both refused and built, but by a bound of the rows of sparse tables.
 use Rattle.rx_spec.proofs.Prelude.{common_steps, ◌≡◌, ⊎_elim, ℕ, Bool, true, false, List, Option, refl, arith}
-use Rattle.rx_spec.proofs.Prelude.{Expression, Nfa, Build, BuildCause, IsSupported, IsUnsupported, BuildFits, Plan}
+use Rattle.rx_spec.proofs.Prelude.{Expression, Nfa, Build, BuildCause, IsSupported, IsUnsupported, BuildFits}
+use Rattle.rx_plan.specs.Plans.{Plan}
 use Rattle.rx_spec.proofs.Prelude.{Cause}
 use Rattle.rx_spec.specs.Causes.{NfaCause, NfaFits, NfaRefused, BuildRefused, HasTooLongRows}
-use Rattle.rx_spec.specs.Plans.{DirectionFits, DirectionRefused, plan_limits}
+use Rattle.rx_plan.specs.Plans.{DirectionFits, DirectionRefused, plan_limits}
 use Rattle.rx_spec.specs.declared.Direction.{Direction}
 use Rattle.rx_regex.specs.Find.{PlanFits, PlanRefused}
 use Rattle.rx_regex.specs.PlanTables.{IsOfPair, TableFits, TableRefused, table_build}
 use Rattle.rx_regex.specs.declared.plan_table.PlanTable.{PlanTable}
-use Rattle.rx_build_error.specs.Refusals.{IsRefused}
-use Rattle.rx_build_error.specs.declared.BuildErrorKind.{BuildErrorKind}
+use Rattle.rx_expr.specs.Refusals.{IsRefused}
+use Rattle.rx_expr.specs.declared.build_error.BuildErrorKind.{BuildErrorKind}
 use Rattle.rx_expr.specs.declared.thompson.build_error.BuildError as nfa
 use Rattle.rx_main.specs.Lines.{Reply, IsRefusal, TellsKind, refusal_reply}
 use Rattle.rx_main.specs.Replies.{IsBounded}

@@ -1,7 +1,8 @@
 -- The numbers of rows of a plan's tables are determined.
 use Rattle.rx_spec.proofs.Prelude.{arith, ◌≡◌, ◌+◌, ℕ, Bool, true, false, List, ap, sym, ◌∙◌, common_steps, Expression}
-use Rattle.rx_spec.proofs.Prelude.{Build, Plan}
-use Rattle.lemmas_tables.proofs.Sizes.{reached_count}
+use Rattle.rx_spec.proofs.Prelude.{Build}
+use Rattle.rx_plan.specs.Plans.{Plan}
+use Rattle.rx_lemmas.proofs.Sizes.{reached_count}
 use Rattle.rx_meaning.proofs.Reduced.{least_is_one_holds}
 use Rattle.rx_regex.specs.Rows.{CountsRows, HaveRows}
 

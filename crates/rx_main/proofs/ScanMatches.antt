@@ -1,9 +1,10 @@
 -- Over an image for all matches `scan` tells the longest matches.
 use Rattle.rx_spec.proofs.Prelude.{arith, ◌≡◌, ℕ, List, ◌++◌, length, drop, ap, ◌∙◌, common_steps, drop-append_seam}
-use Rattle.rx_spec.proofs.Prelude.{All, AreBytes, Expression, IsLoopSafe, Plan, Table}
+use Rattle.rx_spec.proofs.Prelude.{All, AreBytes, Expression, IsLoopSafe, Table}
+use Rattle.rx_plan.specs.Plans.{Plan}
 use Rattle.rx_spec.specs.declared.Form.{Form}
-use Rattle.rx_all.specs.Builds.{all_build}
-use Rattle.rx_all.specs.Matches.{ServesAll}
+use Rattle.rx_meaning.specs.AllBuilds.{all_build}
+use Rattle.rx_meaning.specs.AllMatches.{ServesAll}
 use Rattle.rx_dense.specs.Layouts as dense
 use Rattle.rx_regex.specs.Images.{IsImageOf}
 use Rattle.rx_regex.specs.declared.plan_table.PlanTable.{PlanTable}

@@ -1,6 +1,7 @@
 -- Over an image of both tables of a plan `search` replies what `find` replies.
 use Rattle.rx_spec.proofs.Prelude.{arith, ◌≡◌, ℕ, false, List, ◌++◌, length, Ok, sym, ap, ◌∙◌, common_steps}
-use Rattle.rx_spec.proofs.Prelude.{drop-append_seam, take-append_seam, outcome, Query}
+use Rattle.rx_spec.proofs.Prelude.{drop-append_seam, take-append_seam, Query}
+use Rattle.rx_plan.specs.Plans.{outcome}
 use Rattle.rx_image.specs.Pairs.{Pair, in_order, reads}
 use Rattle.rx_plan.specs.Plan.{plan_of}
 use Rattle.rx_regex.specs.Pairs.{joined}

@@ -3,16 +3,17 @@ use Rattle.rx_spec.proofs.Prelude.{common_steps, ◌≡◌, ℕ, ◌+◌, zero, 
 use Rattle.rx_spec.proofs.Prelude.{None, refl, ap, sym, ◌∙◌, ◌-◌, ◌≤◌, length, subst, arith, Ok, contains, unit_of}
 use Rattle.rx_spec.proofs.Prelude.{Expression, found, HalfAnswer, beside, first_offset, half_search, last_match}
 use Rattle.rx_spec.proofs.Prelude.{next_offset, units_of, whole_walk, FoundMatches, and_then, is_repeat, iterate}
-use Rattle.rx_spec.proofs.Prelude.{iterate_from, unless_repeat, Answer, label_of, outcome, plan_build, unless_error}
+use Rattle.rx_spec.proofs.Prelude.{iterate_from, unless_repeat, Answer, label_of}
+use Rattle.rx_plan.specs.Plans.{outcome, plan_build, unless_error}
 use Rattle.rx_spec.proofs.Prelude.{Anchored, HalfMatch, Match, Query, is_done, has_unanchored, start_context, start_row}
 use Rattle.rx_spec.proofs.Prelude.{State, start_state, step, Build, Node, build_settings, power}
 use Rattle.rx_spec.specs.declared.Direction.{Direction}
-use Rattle.lemmas_walks.proofs.Firsts.{by_test}
-use Rattle.lemmas_walks.proofs.HalfSearches.{IsStarted, half_done, half_walks, not_refused}
-use Rattle.lemmas_walks.proofs.Walking.{Dead, Quits, Steps, goes_on, leads, state_walk, walk-nil, walk_dead, walk_steps}
+use Rattle.rx_lemmas.proofs.Firsts.{by_test}
+use Rattle.rx_lemmas.proofs.HalfSearches.{IsStarted, half_done, half_walks, not_refused}
+use Rattle.rx_lemmas.proofs.Walking.{Dead, Quits, Steps, goes_on, leads, state_walk, walk-nil, walk_dead, walk_steps}
 use Rattle.rx_meaning.proofs.IteratedSearches.{iterate_alike}
 use Rattle.rx_plan.specs.Plan.{plan_of, usual}
-use Rattle.lemmas_walks.proofs.QuitSets.{contains-empty}
+use Rattle.rx_lemmas.proofs.ByteSets.{contains-empty}
 
 -- ---- half searches of a build without quit bytes
 

@@ -2,7 +2,7 @@
 use Rattle.std.specs.Prelude.{ℕ, ◌≡◌, true, Option, Some, None, List, [], ◌∷◌}
 use Rattle.std.specs.List.{flat_map}
 use Rattle.rx_spec.specs.Iterating.{FoundMatches, iterate}
-use Rattle.rx_spec.specs.Plans.{outcome}
+use Rattle.rx_plan.specs.Plans.{outcome}
 use Rattle.rx_spec.specs.Queries.{Query, Match, MatchError}
 use Rattle.rx_plan.specs.Plan.{plan_of}
 use Rattle.rx_script.specs.Grammar.{Spelled}

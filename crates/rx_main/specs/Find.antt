@@ -1,6 +1,6 @@
 -- What the command `find` replies to the bytes of a script: the leftmost match.
 use Rattle.std.specs.Prelude.{ℕ, ◌≡◌, Bool, true, false, Option, Some, None, Ok, Err, List, [], ◌++◌}
-use Rattle.rx_spec.specs.Plans.{outcome}
+use Rattle.rx_plan.specs.Plans.{outcome}
 use Rattle.rx_spec.specs.Queries.{Query, Match, MatchError}
 use Rattle.rx_plan.specs.Plan.{plan_of}
 use Rattle.rx_regex.specs.Rows.{HaveRows}

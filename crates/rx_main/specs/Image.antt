@@ -1,7 +1,7 @@
 -- What the command `image` replies to the bytes of a script: an image of a table of its plan.
 use Rattle.std.specs.Prelude.{ℕ, ◌≡◌, false, List}
 use Rattle.rx_spec.specs.Expressions.{Expression}
-use Rattle.rx_spec.specs.Plans.{Plan}
+use Rattle.rx_plan.specs.Plans.{Plan}
 use Rattle.rx_plan.specs.Plan.{plan_of}
 use Rattle.rx_regex.specs.Images.{IsImage}
 use Rattle.rx_regex.specs.PlanTables.{TableFits, TableRefused}

@@ -3,8 +3,8 @@ use Rattle.std.specs.Prelude.{ℕ, ◌≡◌, ◌/◌, ◌%◌, List, ◌∷◌,
 use Rattle.std.specs.Fmt.{decimal}
 use Rattle.rx_spec.specs.Queries.{Match, MatchError}
 use Rattle.rx_spec.specs.Causes.{BuildCause, NfaCause}
-use Rattle.rx_spec.specs.Plans.{Cause}
-use Rattle.rx_build_error.specs.declared.BuildErrorKind.{BuildErrorKind}
+use Rattle.rx_spec.specs.Causes.{Cause}
+use Rattle.rx_expr.specs.declared.build_error.BuildErrorKind.{BuildErrorKind}
 use Rattle.rx_script.specs.Faults.{kind_name}
 use Rattle.rx_script.specs.declared.fault.BadKind.{BadKind}
 use Rattle.rx_transfer.specs.Words.{hex_code, mode_name, newline}

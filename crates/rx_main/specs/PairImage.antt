@@ -1,7 +1,7 @@
 -- What the command `image pair` replies to the bytes of a script: one image of both tables of its plan.
 use Rattle.std.specs.Prelude.{ℕ, ◌≡◌, false, List}
 use Rattle.rx_spec.specs.Expressions.{Expression}
-use Rattle.rx_spec.specs.Plans.{Plan}
+use Rattle.rx_plan.specs.Plans.{Plan}
 use Rattle.rx_plan.specs.Plan.{plan_of}
 use Rattle.rx_regex.specs.Images.{IsPairImage}
 use Rattle.rx_script.specs.Grammar.{Spelled}

@@ -2,7 +2,8 @@
 use Rattle.std.specs.Prelude.{ℕ, ◌≡◌, ◌+◌, ◌≤◌, ◌⊎◌, Bool, true, false, List, [], length}
 use Rattle.rx_spec.specs.Expressions.{Expression}
 use Rattle.rx_spec.specs.Causes.{BuildCause, HasTooLongRows}
-use Rattle.rx_spec.specs.Plans.{Plan, Cause, plan_limits}
+use Rattle.rx_plan.specs.Plans.{Plan, plan_limits}
+use Rattle.rx_spec.specs.Causes.{Cause}
 use Rattle.rx_wire.specs.declared.order.Order.{Order}
 use Rattle.rx_plan.specs.Plan.{plan_of, usual}
 use Rattle.rx_regex.specs.PlanTables.{IsOfPair, table_build}

@@ -4,12 +4,12 @@ use Rattle.std.specs.List.{flat_map}
 use Rattle.std.specs.Fmt.{decimal}
 use Rattle.rx_spec.specs.Bytes.{AreBytes}
 use Rattle.rx_spec.specs.Expressions.{Expression}
-use Rattle.rx_spec.specs.Plans.{Plan}
+use Rattle.rx_plan.specs.Plans.{Plan}
 use Rattle.rx_spec.specs.Queries.{Anchored, MatchError}
 use Rattle.rx_spec.specs.Tables.{Table}
 use Rattle.rx_spec.specs.declared.Form.{Form}
-use Rattle.rx_all.specs.Builds.{all_build}
-use Rattle.rx_all.specs.Matches.{ServesAll}
+use Rattle.rx_meaning.specs.AllBuilds.{all_build}
+use Rattle.rx_meaning.specs.AllMatches.{ServesAll}
 use Rattle.rx_dense.specs.Layouts as dense
 use Rattle.rx_dense_image.specs.Images as dense_images
 use Rattle.rx_plan.specs.Plan.{plan_of}

@@ -1,7 +1,7 @@
 -- What all commands that read a script reply to one with a fault.
 use Rattle.std.specs.Prelude.{ℕ, ◌≡◌, Bool, Option, Some, None, List}
 use Rattle.rx_spec.specs.Expressions.{Expression}
-use Rattle.rx_spec.specs.Plans as plans
+use Rattle.rx_plan.specs.Plans as plans
 use Rattle.rx_spec.specs.Queries.{Query, IsFit}
 use Rattle.rx_plan.specs.Plan.{plan_of}
 use Rattle.rx_regex.specs.Find.{PlanFits, PlanRefused}

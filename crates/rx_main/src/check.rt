@@ -10,12 +10,10 @@ ghost use Rattle.rx_main.specs.Check.{pair_rows_reply};
 use crate::lines::fixed_reply;
 use crate::reply::{FOUND, NOT_FOUND, Reply};
 use rx_dense::OwnedDFA;
-use rx_dense_image::DenseRead;
-use rx_image::{Tables, read_pair};
+use rx_image::{DenseRead, SparseRead, Tables, read_pair};
 use rx_regex::Form;
 use rx_search::Automaton;
 use rx_sparse::DFA as SparseDFA;
-use rx_sparse_image::SparseRead;
 use rx_wire::DeserializeErrorKind;
 use std::alloc::{AllocError, Global};
 

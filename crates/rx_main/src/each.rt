@@ -3,7 +3,7 @@
 ghost use Rattle.std.specs.Prelude.{◌≡◌, IfOk, List};
 ghost use Rattle.rx_spec.specs.Expressions.{Expression};
 ghost use Rattle.rx_spec.specs.Iterating.{iterate};
-ghost use Rattle.rx_spec.specs.Plans.{Plan as SearchPlan, outcome};
+ghost use Rattle.rx_plan.specs.Plans.{Plan as SearchPlan, outcome};
 ghost use Rattle.rx_spec.specs.Queries.{IsFit};
 ghost use Rattle.rx_base.specs.Input.{query_of};
 ghost use Rattle.rx_regex.specs.Tables.{IsOf};

@@ -17,12 +17,11 @@ use crate::reply::{FOUND, NOT_FOUND, Reply, TURNED_DOWN};
 use crate::search::parts;
 use rx_base::{Anchored, Unit};
 use rx_dense::OwnedDFA;
-use rx_dense_image::DenseRead;
 use rx_equal::{Parting, UnitList, Verdict, compare};
+use rx_image::{DenseRead, SparseRead};
 use rx_regex::Form;
 use rx_search::Automaton;
 use rx_sparse::DFA as SparseDFA;
-use rx_sparse_image::SparseRead;
 use std::alloc::{AllocError, Global};
 use std::fmt::Write;
 

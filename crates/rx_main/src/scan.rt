@@ -11,12 +11,11 @@ use crate::lines::error_reply;
 use crate::reply::{FOUND, NOT_FOUND, Reply};
 use rx_base::{Anchored, MatchError};
 use rx_dense::OwnedDFA;
-use rx_dense_image::DenseRead;
+use rx_image::{DenseRead, SparseRead};
 use rx_regex::Form;
 use rx_scan::{ScanEnd, Scanner, Token};
 use rx_search::Automaton;
 use rx_sparse::DFA as SparseDFA;
-use rx_sparse_image::SparseRead;
 use std::alloc::{AllocError, Global};
 use std::fmt::Write;
 

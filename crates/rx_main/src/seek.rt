@@ -7,7 +7,7 @@ ghost use Rattle.rx_base.specs.Outside.{Rose};
 ghost use Rattle.rx_base.specs.Search.{mode_of};
 ghost use Rattle.rx_main.specs.Search.{SearchReplies};
 ghost use Rattle.rx_prefilter.specs.OnlyLiterals.{literal_match};
-ghost use Rattle.rx_seek.specs.Seeking.{IsSought};
+ghost use Rattle.rx_prefilter.specs.Seeking.{IsSought};
 ghost use Rattle.rx_main.specs.Replies.{ReadReplies};
 ghost use Rattle.rx_main.specs.Seek.{IsLiteralImage};
 
@@ -18,9 +18,9 @@ use crate::search::answer_reply;
 use crate::transfer::LIMIT;
 use rx_base::{Input, Match, Source, Span};
 use rx_image::{Tables, read_pair};
+use rx_prefilter::seek::{Sought, seek};
 use rx_prefilter::{OnlyLiteral, only_literal};
 use rx_regex::Regex;
-use rx_seek::{Sought, seek};
 use rx_transfer::{TextFault, read_up_to};
 use std::alloc::{AllocError, Global};
 

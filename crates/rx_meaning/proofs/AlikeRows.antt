@@ -3,10 +3,10 @@ use Rattle.rx_spec.proofs.Prelude.{arith, ◌≡◌, ℕ, ◌<◌, Bool, Option,
 use Rattle.rx_spec.proofs.Prelude.{HalfMatch, Machine, IsWord, label_after, last_match, at_label, next_offset, walk}
 use Rattle.rx_spec.proofs.Prelude.{at_item_label, overlapping_walk}
 use Rattle.rx_spec.specs.declared.Direction.{Direction}
-use Rattle.lemmas_walks.proofs.Overlapping.{overlapping-nil, overlapping-more}
-use Rattle.lemmas_walks.proofs.SilentRows.{IsSilent, EndsWell}
-use Rattle.lemmas_walks.proofs.Walking.{walk-nil, walk-more}
-use Rattle.lemmas_walks.proofs.Words.{IsWord-nil, IsWord-cons, IsWord-head, IsWord-tail, run-nil, run-cons}
+use Rattle.rx_lemmas.proofs.Overlapping.{overlapping-nil, overlapping-more}
+use Rattle.rx_lemmas.proofs.SilentRows.{IsSilent, EndsWell}
+use Rattle.rx_lemmas.proofs.Walking.{walk-nil, walk-more}
+use Rattle.rx_lemmas.proofs.Words.{IsWord-nil, IsWord-cons, IsWord-head, IsWord-tail, run-nil, run-cons}
 
 -- The rows are among those of each machine that end well.
 pub record Alike {R S : Type 0} (m : Machine R) (n : Machine S) (In : R → Type 0) (On : S → Type 0) (row : R) (node : S)

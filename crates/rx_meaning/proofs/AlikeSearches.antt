@@ -10,12 +10,12 @@ use Rattle.rx_spec.specs.Tables.{SameSettings}
 use Rattle.rx_spec.specs.Labels.{pattern_start_modes, table_modes}
 use Rattle.rx_spec.specs.declared.Direction.{Direction}
 use Rattle.rx_spec.specs.declared.Start.{Start}
-use Rattle.lemmas_walks.proofs.Firsts.{Contains-there}
-use Rattle.lemmas_walks.proofs.HalfSearches.{Done, Refused, Started, begins, started, half_done, half_refused}
-use Rattle.lemmas_walks.proofs.HalfSearches.{half_walks, going}
-use Rattle.lemmas_walks.proofs.Overlapping.{overlapping_done, overlapping_refused, overlapping_walks}
-use Rattle.lemmas_walks.proofs.ReadUnits.{beside_is_byte, units_word}
-use Rattle.lemmas_walks.proofs.SilentRows.{IsSilent, EndsWell}
+use Rattle.rx_lemmas.proofs.Firsts.{Contains-there}
+use Rattle.rx_lemmas.proofs.HalfSearches.{Done, Refused, Started, begins, started, half_done, half_refused}
+use Rattle.rx_lemmas.proofs.HalfSearches.{half_walks, going}
+use Rattle.rx_lemmas.proofs.Overlapping.{overlapping_done, overlapping_refused, overlapping_walks}
+use Rattle.rx_lemmas.proofs.ReadUnits.{beside_is_byte, units_word}
+use Rattle.rx_lemmas.proofs.SilentRows.{IsSilent, EndsWell}
 use Rattle.rx_meaning.proofs.AlikeRows.{Alike, silent_alike, walk_alike, overlapping_alike}
 
 -- ---- starts

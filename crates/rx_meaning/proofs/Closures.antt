@@ -5,9 +5,9 @@ use Rattle.rx_spec.proofs.Prelude.{row_at, Passing, reach_by, reach, closure, fi
 use Rattle.std.specs.List.{AllByRecursion as Every}
 use Rattle.rx_spec.specs.States.{look_reach}
 use Rattle.rx_spec.specs.declared.Look.{Look}
-use Rattle.lemmas_walks.proofs.Every.{every-append}
-use Rattle.lemmas_walks.proofs.Patterns.{depth_of}
-use Rattle.lemmas_walks.proofs.ShortPaths.{AllNext-more}
+use Rattle.rx_lemmas.proofs.Every.{every-append}
+use Rattle.rx_lemmas.proofs.Patterns.{depth_of}
+use Rattle.rx_lemmas.proofs.ShortPaths.{AllNext-more}
 use Rattle.rx_meaning.proofs.FirstSuccess.{first_of-nil, first_of-single, first_of-append, first_of-flat_map}
 use Rattle.rx_meaning.proofs.FirstSuccess.{first_of-alike}
 use Rattle.rx_meaning.proofs.FirstOccurrences.{firsts_keep, fresh_every}

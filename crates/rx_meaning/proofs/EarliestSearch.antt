@@ -5,15 +5,16 @@ use Rattle.rx_spec.proofs.Prelude.{if◌then◌else◌, Option, Some, None, Ok, 
 use Rattle.rx_spec.proofs.Prelude.{subst, arith, map-id, none-some, same_Some, slice_get, Contains, option_and_then}
 use Rattle.rx_spec.proofs.Prelude.{list_any, range_with_len, Expression, IsLoopSafe, ends, Anchored, is_anchored}
 use Rattle.rx_spec.proofs.Prelude.{reading, HalfMatch, MatchError, first_of, label_of, State, power, build_settings}
-use Rattle.rx_spec.proofs.Prelude.{HalfAnswer, at_label, last_match, plan_build}
+use Rattle.rx_spec.proofs.Prelude.{HalfAnswer, at_label, last_match}
+use Rattle.rx_plan.specs.Plans.{plan_build}
 use Rattle.std.specs.Option.{option_map}
 use Rattle.rx_spec.specs.declared.Direction.{Direction}
-use Rattle.lemmas_walks.proofs.HalfSearches.{Begun, half_begun, told_same, error_not_told}
-use Rattle.lemmas_walks.proofs.Ranges.{first_in_range, range_first_at}
-use Rattle.lemmas_walks.proofs.Reaches.{reaches_sound, reaches_lie}
-use Rattle.lemmas_walks.proofs.ReadUnits.{All-got, unit_at, units_from, units_from-zero, units_from-suc}
-use Rattle.lemmas_walks.proofs.Walking.{Dead, Quits, Steps, leads, state_walk, walk-nil, walk_dead, walk_quits}
-use Rattle.lemmas_walks.proofs.Walking.{walk_steps}
+use Rattle.rx_lemmas.proofs.HalfSearches.{Begun, half_begun, told_same, error_not_told}
+use Rattle.rx_lemmas.proofs.Ranges.{first_in_range, range_first_at}
+use Rattle.rx_lemmas.proofs.Reaches.{reaches_sound, reaches_lie}
+use Rattle.rx_lemmas.proofs.ReadUnits.{All-got, unit_at, units_from, units_from-zero, units_from-suc}
+use Rattle.rx_lemmas.proofs.Walking.{Dead, Quits, Steps, leads, state_walk, walk-nil, walk_dead, walk_quits}
+use Rattle.rx_lemmas.proofs.Walking.{walk_steps}
 use Rattle.rx_meaning.specs.Mirrored.{start_if, start_to_end, least_start}
 use Rattle.rx_meaning.proofs.FirstSuccess.{first_of-alike, first_of-map}
 use Rattle.rx_meaning.proofs.Scan.{Scan, read_in, StandsAt, step_at, step_stands, PlanQuery, scan_of}

@@ -10,7 +10,7 @@ use Rattle.rx_spec.specs.Looks.{holds_between}
 use Rattle.rx_spec.specs.Edge.{is_edge}
 use Rattle.rx_spec.specs.declared.Direction.{Direction}
 use Rattle.rx_spec.specs.declared.Look.{Look}
-use Rattle.lemmas_walks.proofs.Every.{every-append, every-flat_map}
+use Rattle.rx_lemmas.proofs.Every.{every-append, every-flat_map}
 
 -- each end is where it began
 abbrev Stays : (ℕ → List ℕ) → Type 0

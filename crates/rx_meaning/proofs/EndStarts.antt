@@ -1,7 +1,7 @@
 -- Where the match begins of which a forward search told the end: then the joined search answers that match.
 use Rattle.rx_spec.proofs.Prelude.{common_steps, ◌≡◌, ℕ, Bool, true, false, Some, Ok, refl, arith, Anchored}
 use Rattle.rx_spec.proofs.Prelude.{is_anchored, HalfMatch, is_always_start_anchored, HalfAnswer, match_at, with_end}
-use Rattle.rx_spec.proofs.Prelude.{plan_nfa, plan_build}
+use Rattle.rx_plan.specs.Plans.{plan_nfa, plan_build}
 use Rattle.rx_spec.specs.declared.Direction.{Direction}
 use Rattle.rx_meaning.specs.Preference.{build_half_search}
 use Rattle.rx_meaning.specs.Mirrored.{least_start}

@@ -3,7 +3,7 @@ use Rattle.rx_spec.proofs.Prelude.{arith, ◌≡◌, ℕ, Bool, true, false, ◌
 use Rattle.rx_spec.proofs.Prelude.{refl, common_steps, All-contains, All-from_recursion, option_or, list_any, first_of}
 use Rattle.rx_spec.proofs.Prelude.{fresh, firsts}
 use Rattle.std.specs.List.{AllByRecursion as Every}
-use Rattle.lemmas_walks.proofs.Firsts.{seen_true}
+use Rattle.rx_lemmas.proofs.Firsts.{seen_true}
 
 -- After v the value o changes nothing.
 abbrev Absorbed : {V : Type 0} → Option V → Option V → Type 0

@@ -4,7 +4,7 @@ use Rattle.rx_spec.proofs.Prelude.{refl, ap, ap₂, sym, ◌∙◌, arith, slice
 use Rattle.rx_spec.proofs.Prelude.{range_with_len, first_of}
 use Rattle.std.specs.Option.{option_map}
 use Rattle.std.specs.List.{AllByRecursion as Every}
-use Rattle.lemmas_walks.proofs.Ranges.{range_push, or_assoc, or_none}
+use Rattle.rx_lemmas.proofs.Ranges.{range_push, or_assoc, or_none}
 
 pub map-or : {V W : Type 0} (h : V → W) (a b : Option V)
     → option_map h (option_or a b) ≡ option_or (option_map h a) (option_map h b)

@@ -2,12 +2,13 @@
 use Rattle.rx_spec.proofs.Prelude.{rules, ◌≡◌, ℕ, suc, ◌+◌, ◌-◌, ◌<◌, ◌≤◌, true, false, if◌then◌else◌, Option, Some}
 use Rattle.rx_spec.proofs.Prelude.{None, Ok, List, [], ◌∷◌, length, refl, ap, sym, ◌∙◌, arith, ⊎_elim, common_steps}
 use Rattle.rx_spec.proofs.Prelude.{le-leb, map-id, option_or, range_with_len, Anchored, HalfMatch, first_of, found}
-use Rattle.rx_spec.proofs.Prelude.{is_always_start_anchored, plan_nfa, plan_build}
+use Rattle.rx_spec.proofs.Prelude.{is_always_start_anchored}
+use Rattle.rx_plan.specs.Plans.{plan_nfa, plan_build}
 use Rattle.std.proofs.lemmas.Bool.{lt-leb}
 use Rattle.std.specs.Option.{option_map}
 use Rattle.rx_spec.specs.declared.Direction.{Direction}
-use Rattle.lemmas_walks.proofs.Firsts.{by_test}
-use Rattle.lemmas_walks.proofs.SilentRows.{dead_empty}
+use Rattle.rx_lemmas.proofs.Firsts.{by_test}
+use Rattle.rx_lemmas.proofs.SilentRows.{dead_empty}
 use Rattle.rx_meaning.specs.Preference.{build_half_search, end_of, Preference}
 use Rattle.rx_meaning.proofs.FirstSuccess.{first_of-nil, first_of-cons, first_of-single, first_of-alike, first_of-none}
 use Rattle.rx_meaning.proofs.FirstSuccess.{range_longer}

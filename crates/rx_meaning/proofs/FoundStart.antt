@@ -6,11 +6,11 @@ use Rattle.rx_spec.proofs.Prelude.{ends, Anchored, Query, Match, is_anchored, re
 use Rattle.rx_spec.proofs.Prelude.{candidate}
 use Rattle.rx_spec.specs.Found.{admits}
 use Rattle.rx_spec.specs.declared.Direction.{Direction}
-use Rattle.lemmas_walks.proofs.FoundLaws.{IsFound, candidate_none, find_is}
-use Rattle.lemmas_walks.proofs.Ranges.{range_none, range_first_at}
-use Rattle.lemmas_walks.proofs.Reaches.{reaches_sound, reaches_lie}
+use Rattle.rx_lemmas.proofs.FoundLaws.{IsFound, candidate_none, find_is}
+use Rattle.rx_lemmas.proofs.Ranges.{range_none, range_first_at}
+use Rattle.rx_lemmas.proofs.Reaches.{reaches_sound, reaches_lie}
 use Rattle.rx_meaning.specs.Mirrored.{start_to_end, least_start}
-use Rattle.lemmas_walks.proofs.ReadUnits.{All-got}
+use Rattle.rx_lemmas.proofs.ReadUnits.{All-got}
 use Rattle.rx_meaning.proofs.Scan.{PlanQuery}
 use Rattle.rx_meaning.proofs.NfaStarts.{edge_alone}
 use Rattle.rx_meaning.proofs.OneEnd.{any_end, end_any}

@@ -8,7 +8,7 @@ use Rattle.std.proofs.lemmas.Bool.{and_left}
 use Rattle.std.specs.Option.{option_map}
 use Rattle.rx_spec.specs.Found.{admits}
 use Rattle.rx_spec.specs.declared.Direction.{Direction}
-use Rattle.lemmas_walks.proofs.Ranges.{range_none, range_alike, range_push, or_none}
+use Rattle.rx_lemmas.proofs.Ranges.{range_none, range_alike, range_push, or_none}
 use Rattle.rx_meaning.specs.Preference.{end_of}
 use Rattle.rx_meaning.proofs.FirstSuccess.{first_of-nil, first_of-map, first_of-alike, first_of-none, range_longer}
 

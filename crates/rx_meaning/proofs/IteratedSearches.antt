@@ -1,7 +1,7 @@
 -- Two searches that answer alike from each start give the same matches one after another.
 use Rattle.rx_spec.proofs.Prelude.{arith, ◌≡◌, ◌-◌, ℕ, zero, suc, Option, Some, None, Ok, Err, refl, common_steps}
 use Rattle.rx_spec.proofs.Prelude.{unless_repeat, iterate_from, iterate, Answer, Query}
-use Rattle.lemmas_walks.proofs.FoundLaws.{and_then-same}
+use Rattle.rx_lemmas.proofs.FoundLaws.{and_then-same}
 
 abbrev pub from : Query → ℕ → Query
 from q start = record q { start = start }

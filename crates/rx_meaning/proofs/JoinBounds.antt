@@ -4,7 +4,7 @@ use Rattle.rx_spec.proofs.Prelude.{Option, Some, None, Ok, Err, refl, ap, sym, â
 use Rattle.rx_spec.proofs.Prelude.{Match, HalfMatch, MatchError, is_anchored, Table, IsSound, HalfAnswer, half_unsplit}
 use Rattle.rx_spec.proofs.Prelude.{Answer, match_at, with_start, back_from, with_end}
 use Rattle.rx_spec.specs.declared.Direction.{Direction}
-use Rattle.lemmas_walks.proofs.Firsts.{by_test}
+use Rattle.rx_lemmas.proofs.Firsts.{by_test}
 use Rattle.rx_meaning.specs.Bounds.{IsInBounds, IsMatchInBounds, JoinQuits, JoinInBounds, IsNamed, QuittingAgain}
 use Rattle.rx_meaning.specs.Bounds.{QuittingBack}
 use Rattle.rx_meaning.proofs.SplitBounds.{half_unsplit_in_bounds, half_unsplit_quits}

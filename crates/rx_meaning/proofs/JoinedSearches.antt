@@ -1,12 +1,13 @@
 -- What the two half searches answer together: what is found, and a match for each end that is met.
 use Rattle.rx_spec.proofs.Prelude.{rules, ◌≡◌, ℕ, false, Option, Some, None, Ok, Err, refl, ap, sym, ◌∙◌, none-some}
 use Rattle.rx_spec.proofs.Prelude.{same_Some, Query, Match, HalfMatch, MatchError, found, HalfAnswer, match_at}
-use Rattle.rx_spec.proofs.Prelude.{with_end, is_always_start_anchored, Build, power, build_settings, plan_nfa}
-use Rattle.rx_spec.proofs.Prelude.{plan_build, unless_error}
+use Rattle.rx_spec.proofs.Prelude.{with_end, is_always_start_anchored, Build, power, build_settings}
+use Rattle.rx_plan.specs.Plans.{plan_nfa}
+use Rattle.rx_plan.specs.Plans.{plan_build, unless_error}
 use Rattle.std.specs.Option.{option_map}
 use Rattle.rx_spec.specs.declared.Direction.{Direction}
-use Rattle.lemmas_walks.proofs.WalkBounds.{half_is_no_mismatch}
-use Rattle.lemmas_walks.proofs.FoundLaws.{is_found}
+use Rattle.rx_lemmas.proofs.WalkBounds.{half_is_no_mismatch}
+use Rattle.rx_lemmas.proofs.FoundLaws.{is_found}
 use Rattle.rx_meaning.specs.Preference.{build_half_search, end_of}
 use Rattle.rx_meaning.specs.Joined.{plan_search, JoinedSearch, IsMatch, JoinedEnd, NeverMismatched}
 use Rattle.rx_meaning.proofs.Scan.{PlanQuery, plan_query}

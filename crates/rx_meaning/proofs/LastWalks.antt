@@ -3,10 +3,10 @@ use Rattle.rx_spec.proofs.Prelude.{common_steps, ◌≡◌, ℕ, zero, suc, ◌+
 use Rattle.rx_spec.proofs.Prelude.{◌∷◌, ap, sym, ◌∙◌, arith, option_or, HalfMatch, MatchError, label_of, State}
 use Rattle.rx_spec.proofs.Prelude.{is_dead_state, last_match, next_offset, unit_offset}
 use Rattle.rx_spec.specs.declared.Direction.{Direction}
-use Rattle.lemmas_walks.proofs.HalfSearches.{told_same, error_not_told}
-use Rattle.lemmas_walks.proofs.ReadUnits.{unit_at, units_from, units_from-zero, units_from-suc, place_of, place_of-next}
-use Rattle.lemmas_walks.proofs.Walking.{goes_on, Dead, Quits, Steps, leads, state_walk, walk-nil, walk_dead, walk_quits}
-use Rattle.lemmas_walks.proofs.Walking.{walk_steps}
+use Rattle.rx_lemmas.proofs.HalfSearches.{told_same, error_not_told}
+use Rattle.rx_lemmas.proofs.ReadUnits.{unit_at, units_from, units_from-zero, units_from-suc, place_of, place_of-next}
+use Rattle.rx_lemmas.proofs.Walking.{goes_on, Dead, Quits, Steps, leads, state_walk, walk-nil, walk_dead, walk_quits}
+use Rattle.rx_lemmas.proofs.Walking.{walk_steps}
 use Rattle.rx_meaning.proofs.Scan.{Scan, read_in, StandsAt, step_at, step_stands}
 
 -- what a label tells at an offset

@@ -23,6 +23,7 @@ pub mod FoundWorths
 pub mod ForwardSearch
 -- in reverse: it tells the least start, and quits nowhere (mirrored)
 pub mod OneEnd
+pub mod QuitSets
 pub mod QuitBytes
 pub mod ReverseSearch
 -- both together: a match that ends where the forward search told, also of the first end met (joined)
@@ -46,3 +47,10 @@ pub mod SpanAnswers
 pub mod Pigeonholes
 pub mod Reduced
 pub mod PowerTables
+-- what is told from an offset on
+pub mod PastOffsets
+-- over a build: exactly the ends of all patterns
+pub mod AllEnds
+-- over a table that serves the build
+pub mod ServedPlaces
+pub mod AllMatches

@@ -4,14 +4,15 @@ use Rattle.rx_spec.proofs.Prelude.{if◌then◌else◌, Option, Some, List, [], 
 use Rattle.rx_spec.proofs.Prelude.{arith, length-append, eqb-true, and_parts, map-id, All-map, All-weaker, none-some}
 use Rattle.rx_spec.proofs.Prelude.{same_Some, All, slice_get, option_and_then, list_all, range_with_len, Expression}
 use Rattle.rx_spec.proofs.Prelude.{IsLoopSafe, ends, begins_with_edge, Anchored, reading, in_order, first_of, Nfa}
-use Rattle.rx_spec.proofs.Prelude.{nfa_of, read_as, lead_in, is_always_start_anchored, nfa_start, plan_nfa}
+use Rattle.rx_spec.proofs.Prelude.{nfa_of, read_as, lead_in, is_always_start_anchored, nfa_start}
+use Rattle.rx_plan.specs.Plans.{plan_nfa}
 use Rattle.rx_spec.specs.declared.Direction.{Direction}
-use Rattle.lemmas_walks.proofs.Firsts.{by_test}
-use Rattle.lemmas_walks.proofs.Mirrors.{IsLoopSafe-mirror}
-use Rattle.lemmas_walks.proofs.Patterns.{pattern_part, anchored_part, unanchored_part, nfa_rows}
-use Rattle.lemmas_walks.proofs.Ranges.{range_alike}
-use Rattle.lemmas_walks.proofs.RowPlaces.{Stands, stands-left, stands-right, stands_all}
-use Rattle.lemmas_walks.proofs.ReadUnits.{All-got}
+use Rattle.rx_lemmas.proofs.Firsts.{by_test}
+use Rattle.rx_lemmas.proofs.Mirrors.{IsLoopSafe-mirror}
+use Rattle.rx_lemmas.proofs.Patterns.{pattern_part, anchored_part, unanchored_part, nfa_rows}
+use Rattle.rx_lemmas.proofs.Ranges.{range_alike}
+use Rattle.rx_lemmas.proofs.RowPlaces.{Stands, stands-left, stands-right, stands_all}
+use Rattle.rx_lemmas.proofs.ReadUnits.{All-got}
 use Rattle.rx_meaning.proofs.FirstSuccess.{first_of-places}
 use Rattle.rx_meaning.proofs.Solution.{Valued, given}
 use Rattle.rx_meaning.proofs.StartRows.{pattern_worth, entries_count, entry_gives, start_of_all_gives, lead_in_gives}

@@ -4,7 +4,7 @@ use Rattle.rx_spec.proofs.Prelude.{common_steps, ◌≡◌, ℕ, ◌+◌, ◌<�
 use Rattle.rx_spec.proofs.Prelude.{[], ◌∷◌, arith, eq-eqb, eqb-true, slice_get, Contains, get_or, list_any, first_of}
 use Rattle.rx_spec.proofs.Prelude.{State, is_dead_state}
 use Rattle.std.proofs.lemmas.List.Folds.{Any-from_list_any, list_any_at}
-use Rattle.lemmas_walks.proofs.ReadUnits.{unit_at}
+use Rattle.rx_lemmas.proofs.ReadUnits.{unit_at}
 use Rattle.rx_meaning.proofs.FirstSuccess.{first_of-nil, first_of-cons}
 use Rattle.rx_meaning.proofs.Solution.{given, given_none}
 use Rattle.rx_meaning.proofs.Closures.{first_given}

@@ -7,9 +7,9 @@ use Rattle.rx_spec.proofs.Prelude.{up_to, further, ends, first_of, Row, Maker, s
 use Rattle.rx_spec.proofs.Prelude.{choice, copies, optional, loop, repeated, compile, row_at}
 use Rattle.std.proofs.lemmas.List.Concat.{flat_map_single}
 use Rattle.rx_spec.specs.declared.Look.{Look}
-use Rattle.lemmas_walks.proofs.Every.{every-weaker, none_is_nil, flat_map-flat_map, flat_map-alike}
-use Rattle.lemmas_walks.proofs.Ends.{Lies, Advances, rounds_lie, ends_lie, advances_one}
-use Rattle.lemmas_walks.proofs.RowPlaces.{Stands, stands-left, stands-right}
+use Rattle.rx_lemmas.proofs.Every.{every-weaker, none_is_nil, flat_map-flat_map, flat_map-alike}
+use Rattle.rx_lemmas.proofs.Ends.{Lies, Advances, rounds_lie, ends_lie, advances_one}
+use Rattle.rx_lemmas.proofs.RowPlaces.{Stands, stands-left, stands-right}
 use Rattle.rx_meaning.proofs.FirstSuccess.{first_of-nil, first_of-single, first_of-append, first_of-same}
 use Rattle.rx_meaning.proofs.FirstSuccess.{first_of-flat_map}
 use Rattle.rx_meaning.proofs.Solution.{Valued, read_by, given, gives_at, given_as}

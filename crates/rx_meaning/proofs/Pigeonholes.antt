@@ -4,7 +4,7 @@ use Rattle.rx_spec.proofs.Prelude.{arith, eqb-true, ne_eqb, Contains, IsDistinct
 use Rattle.std.proofs.lemmas.Map.Steps.{length-le_from_distinct_below}
 use Rattle.std.proofs.lemmas.Map.Views.{Contains-from_any}
 use Rattle.std.specs.List.{AllByRecursion as Every}
-use Rattle.lemmas_walks.proofs.Firsts.{Contains-cases, Contains-there, Contains-nil, Contains-here}
+use Rattle.rx_lemmas.proofs.Firsts.{Contains-cases, Contains-there, Contains-nil, Contains-here}
 
 -- the numbers given to those below k, the last one's first
 record Images (P : ℕ → ℕ → Type 0) (n k : ℕ) : Type 0 where

@@ -5,8 +5,8 @@ use Rattle.rx_spec.proofs.Prelude.{built_modes, next_node, node_after, power, Is
 use Rattle.rx_spec.proofs.Prelude.{row_after, SameLabels, IsReachedRow, node_at, IsPower}
 use Rattle.rx_spec.specs.Builds as builds
 use Rattle.rx_spec.specs.declared.Start.{Start}
-use Rattle.lemmas_walks.proofs.SilentRows.{row_there}
-use Rattle.lemmas_walks.proofs.Words.{run-nil, run-cons, IsWord-head, IsWord-tail}
+use Rattle.rx_lemmas.proofs.SilentRows.{row_there}
+use Rattle.rx_lemmas.proofs.Words.{run-nil, run-cons, IsWord-head, IsWord-tail}
 use Rattle.rx_meaning.specs.Least.{PowerGives, PowerIsReached}
 
 module _ (t : Table) (b : Build) (is : IsTable t) (by : IsPower t b) where

@@ -5,14 +5,15 @@ use Rattle.rx_spec.proofs.Prelude.{true, false, Option, Some, None, Ok, List, []
 use Rattle.rx_spec.proofs.Prelude.{subst, arith, none-some, contains, unit_of, Reading, before, after, Anchored, Query}
 use Rattle.rx_spec.proofs.Prelude.{reading, HalfMatch, MatchError, label_of, State, step, Build, Node, power}
 use Rattle.rx_spec.proofs.Prelude.{build_settings, HalfAnswer, last_match, at_label, next_offset, unit_offset, beside}
-use Rattle.rx_spec.proofs.Prelude.{first_offset, back_from, plan_build}
+use Rattle.rx_spec.proofs.Prelude.{first_offset, back_from}
+use Rattle.rx_plan.specs.Plans.{plan_build}
 use Rattle.rx_spec.specs.declared.Direction.{Direction}
-use Rattle.lemmas_walks.proofs.QuitSets.{quits_alike}
-use Rattle.lemmas_walks.proofs.HalfSearches.{Begun, half_begun, told_same, error_not_told, IsStarted}
-use Rattle.lemmas_walks.proofs.ReadUnits.{unit_at, units_from, units_from-zero, units_from-suc, place_of, place_of-next}
-use Rattle.lemmas_walks.proofs.ReadUnits.{first_place, first_offset_is, next_at_place}
-use Rattle.lemmas_walks.proofs.Walking.{goes_on, Dead, Quits, Steps, leads, state_walk, walk-nil, walk_dead, walk_quits}
-use Rattle.lemmas_walks.proofs.Walking.{walk_steps}
+use Rattle.rx_meaning.proofs.QuitSets.{quits_alike}
+use Rattle.rx_lemmas.proofs.HalfSearches.{Begun, half_begun, told_same, error_not_told, IsStarted}
+use Rattle.rx_lemmas.proofs.ReadUnits.{unit_at, units_from, units_from-zero, units_from-suc, place_of, place_of-next}
+use Rattle.rx_lemmas.proofs.ReadUnits.{first_place, first_offset_is, next_at_place}
+use Rattle.rx_lemmas.proofs.Walking.{goes_on, Dead, Quits, Steps, leads, state_walk, walk-nil, walk_dead, walk_quits}
+use Rattle.rx_lemmas.proofs.Walking.{walk_steps}
 use Rattle.rx_meaning.specs.Preference.{build_half_search}
 use Rattle.rx_meaning.proofs.Scan.{read_in, PlanQuery, scan_of}
 use Rattle.rx_meaning.proofs.StartStates.{begin_state, begun_walk, query_state, started_search}

@@ -3,9 +3,9 @@ use Rattle.rx_spec.proofs.Prelude.{common_steps, ◌≡◌, ℕ, suc, zero, ◌<
 use Rattle.rx_spec.proofs.Prelude.{arith, cases_eq, Contains, Anchored, Machine, Label, IsWord, built_modes, power}
 use Rattle.rx_spec.proofs.Prelude.{Table, IsTable, row_after, label_after, SameLabels, IsReachedRow}
 use Rattle.rx_spec.specs.Labels.{IsReduced, IsLeast}
-use Rattle.lemmas_walks.proofs.SilentRows.{IsRow, zero_is_silent}
-use Rattle.lemmas_walks.proofs.Words.{run-nil, run-cons, run-append, run-within, IsWord-head, IsWord-tail}
-use Rattle.lemmas_walks.proofs.Words.{IsWord-append}
+use Rattle.rx_lemmas.proofs.SilentRows.{IsRow, zero_is_silent}
+use Rattle.rx_lemmas.proofs.Words.{run-nil, run-cons, run-append, run-within, IsWord-head, IsWord-tail}
+use Rattle.rx_lemmas.proofs.Words.{IsWord-append}
 use Rattle.rx_meaning.specs.Least.{Leastness, ReducedIsLeast, LeastIsOne}
 use Rattle.rx_meaning.proofs.Pigeonholes.{pigeons}
 

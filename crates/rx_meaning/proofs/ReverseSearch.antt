@@ -3,12 +3,13 @@ use Rattle.rx_spec.proofs.Prelude.{common_steps, ◌≡◌, ℕ, suc, ◌+◌, �
 use Rattle.rx_spec.proofs.Prelude.{None, Ok, List, [], ◌∷◌, length, refl, ap, ap₂, sym, ◌∙◌, arith, length-reverse}
 use Rattle.rx_spec.proofs.Prelude.{slice_get-map, both_ways, slice_get, option_or, option_and_then, list_any}
 use Rattle.rx_spec.proofs.Prelude.{range_with_len, Expression, IsLoopSafe, mirror, ends, Anchored, reading, HalfMatch}
-use Rattle.rx_spec.proofs.Prelude.{first_of, back_from, read_as, State, plan_build}
+use Rattle.rx_spec.proofs.Prelude.{first_of, back_from, read_as, State}
+use Rattle.rx_plan.specs.Plans.{plan_build}
 use Rattle.std.specs.Option.{option_map}
 use Rattle.rx_spec.specs.declared.Direction.{Direction}
-use Rattle.lemmas_walks.proofs.Mirrors.{ends_mirrored}
-use Rattle.lemmas_walks.proofs.Ranges.{range_none, range_alike, range_push}
-use Rattle.lemmas_walks.proofs.ReadUnits.{All-got, unit_at}
+use Rattle.rx_lemmas.proofs.Mirrors.{ends_mirrored}
+use Rattle.rx_lemmas.proofs.Ranges.{range_none, range_alike, range_push}
+use Rattle.rx_lemmas.proofs.ReadUnits.{All-got, unit_at}
 use Rattle.rx_meaning.specs.Preference.{build_half_search}
 use Rattle.rx_meaning.specs.Mirrored.{MirroredSearch, StartOfEnd, start_if, start_to_end, least_start}
 use Rattle.rx_meaning.proofs.FirstSuccess.{first_of-nil, first_of-alike, first_of-map}

@@ -2,11 +2,12 @@
 use Rattle.rx_spec.proofs.Prelude.{common_steps, ◌≡◌, ℕ, ◌+◌, ◌<◌, ◌≤◌, false, Option, List, length, refl, arith, All}
 use Rattle.rx_spec.proofs.Prelude.{slice_get, flat_map, AreBytes, unit_of, Reading, before, after, Expression}
 use Rattle.rx_spec.proofs.Prelude.{IsLoopSafe, Query, in_order, facts_of, unit_facts, IsShallow, row_at, State}
-use Rattle.rx_spec.proofs.Prelude.{state_at, decided_rows, cut, target, pattern_of, step, Build, Plan, plan_build}
+use Rattle.rx_spec.proofs.Prelude.{state_at, decided_rows, cut, target, pattern_of, step, Build}
+use Rattle.rx_plan.specs.Plans.{Plan, plan_build}
 use Rattle.rx_spec.specs.declared.Direction.{Direction}
-use Rattle.lemmas_walks.proofs.Facts.{unit_knows}
-use Rattle.lemmas_walks.proofs.ReadUnits.{unit_at, All-got, bytes_in_order}
-use Rattle.lemmas_walks.proofs.Shallows.{nfa_shallow}
+use Rattle.rx_lemmas.proofs.Facts.{unit_knows}
+use Rattle.rx_lemmas.proofs.ReadUnits.{unit_at, All-got, bytes_in_order}
+use Rattle.rx_lemmas.proofs.Shallows.{nfa_shallow}
 use Rattle.rx_meaning.proofs.Solution.{Valued}
 
 -- a build whose paths that read nothing are short, and the bytes that it reads, in the order of reading

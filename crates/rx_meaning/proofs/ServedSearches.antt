@@ -3,9 +3,10 @@
 use Rattle.rx_spec.proofs.Prelude.{arith, rules, ◌≡◌, ℕ, suc, zero, ◌-◌, Bool, true, false, if◌then◌else◌, List, refl}
 use Rattle.rx_spec.proofs.Prelude.{ap, ap₂, sym, ◌∙◌, common_steps, AreBytes, Expression, Query, Table, HalfAnswer}
 use Rattle.rx_spec.proofs.Prelude.{half_search, narrower, unless_split, skip_splits, split_limit, skips_splits}
-use Rattle.rx_spec.proofs.Prelude.{half_unsplit, Answer, joined_search, join, iterate, Plan, plan_build}
+use Rattle.rx_spec.proofs.Prelude.{half_unsplit, Answer, joined_search, join, iterate}
+use Rattle.rx_plan.specs.Plans.{Plan, plan_build}
 use Rattle.rx_spec.specs.declared.Direction.{Direction}
-use Rattle.lemmas_walks.proofs.ReadUnits.{narrower_bytes}
+use Rattle.rx_lemmas.proofs.ReadUnits.{narrower_bytes}
 use Rattle.rx_meaning.specs.Preference.{build_half_search}
 use Rattle.rx_meaning.specs.Joined.{plan_search}
 use Rattle.rx_meaning.specs.Tables.{HalfUnsplitOfTable, OverlappingUnsplitOfTable, JoinOfTables, IterateOfTables, Flags}

@@ -6,8 +6,8 @@ use Rattle.rx_spec.proofs.Prelude.{Anchored, Settings, Build, dead, start_node, 
 use Rattle.rx_spec.proofs.Prelude.{built_modes, Table, IsTable, SameLabels}
 use Rattle.rx_spec.specs.Labels.{table_modes}
 use Rattle.rx_spec.specs.declared.Start.{Start}
-use Rattle.lemmas_walks.proofs.SilentRows.{IsSilent, IsRow, zero_is_silent, table_ends_well, AnyNode, dead_label}
-use Rattle.lemmas_walks.proofs.SilentRows.{power_ends_well}
+use Rattle.rx_lemmas.proofs.SilentRows.{IsSilent, IsRow, zero_is_silent, table_ends_well, AnyNode, dead_label}
+use Rattle.rx_lemmas.proofs.SilentRows.{power_ends_well}
 use Rattle.rx_meaning.specs.Tables.{Serves, HalfOfTable, OverlappingOfTable, HalfOfCopy, OverlappingOfCopy}
 use Rattle.rx_meaning.proofs.AlikeSearches.{StartsWell, half_alike, overlapping_search_alike}
 

@@ -2,7 +2,7 @@
 use Rattle.rx_spec.proofs.Prelude.{rules, ◌≡◌, ℕ, zero, suc, ◌+◌, ◌-◌, ◌≤◌, if◌then◌else◌, Option, Some, None, List}
 use Rattle.rx_spec.proofs.Prelude.{length, refl, ap, ap₂, ◌∙◌, arith, common_steps, slice_get_past, option_or, contains}
 use Rattle.rx_spec.proofs.Prelude.{Reading, after, holds_at, Row, row_at, AllNext, Short, IsShallow}
-use Rattle.lemmas_walks.proofs.Patterns.{depth_of}
+use Rattle.rx_lemmas.proofs.Patterns.{depth_of}
 
 -- Rows whose paths that read nothing are short, what they read, and what a match is worth, by its pattern and
 -- the place where it ends.

@@ -7,12 +7,13 @@ use Rattle.rx_spec.proofs.Prelude.{Build, power, build_settings, Table, IsSound,
 use Rattle.rx_spec.proofs.Prelude.{OverlappingMatches, overlapping, is_split, narrower, is_narrowest, unless_split}
 use Rattle.rx_spec.proofs.Prelude.{skip_splits, split_limit, skips_splits, half_unsplit, item_unsplit, Answer, match_at}
 use Rattle.rx_spec.proofs.Prelude.{with_start, back_from, with_end, joined_search, join, is_repeat, unless_repeat}
-use Rattle.rx_spec.proofs.Prelude.{and_then, iterate_from, is_always_start_anchored, plan_nfa, plan_build}
+use Rattle.rx_spec.proofs.Prelude.{and_then, iterate_from, is_always_start_anchored}
+use Rattle.rx_plan.specs.Plans.{plan_nfa, plan_build}
 use Rattle.rx_spec.specs.Splits.{is_boundary_byte, overlapping_unsplit}
 use Rattle.rx_spec.specs.declared.Direction.{Direction}
-use Rattle.lemmas_walks.proofs.WalkBounds.{half_met, half_in_span}
-use Rattle.lemmas_walks.proofs.Firsts.{by_test, Contains-here, Contains-there}
-use Rattle.lemmas_walks.proofs.OverlappingBounds.{overlapping_in_span}
+use Rattle.rx_lemmas.proofs.WalkBounds.{half_met, half_in_span}
+use Rattle.rx_lemmas.proofs.Firsts.{by_test, Contains-here, Contains-there}
+use Rattle.rx_lemmas.proofs.OverlappingBounds.{overlapping_in_span}
 use Rattle.rx_meaning.specs.Bounds.{SameSpan, SpanDecidesUnsplit, SpanDecidesOverlappingUnsplit, SpanDecidesJoin}
 use Rattle.rx_meaning.specs.Bounds.{SpanDecidesIterate, SpanDecidesOutcome}
 use Rattle.rx_meaning.specs.Preference.{build_half_search}
@@ -21,7 +22,7 @@ use Rattle.rx_meaning.proofs.SplitBounds.{half_unsplit_in_bounds}
 use Rattle.rx_meaning.proofs.JoinBounds.{join_in_bounds}
 use Rattle.rx_meaning.proofs.SpanQueries.{same_half, same_overlapping, other, is_other, to_other, same_after}
 use Rattle.rx_meaning.proofs.SpanQueries.{narrower_same, later_same, back_same}
-use Rattle.lemmas_walks.proofs.FoundLaws.{and_then-same}
+use Rattle.rx_lemmas.proofs.FoundLaws.{and_then-same}
 
 -- ---- with matches that split a character passed over
 

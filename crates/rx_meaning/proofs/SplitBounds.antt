@@ -7,10 +7,10 @@ use Rattle.rx_spec.proofs.Prelude.{narrower, is_narrowest, unless_split, skip_sp
 use Rattle.rx_spec.proofs.Prelude.{item_unsplit}
 use Rattle.rx_spec.specs.Splits.{items_unsplit}
 use Rattle.rx_spec.specs.declared.Direction.{Direction}
-use Rattle.lemmas_walks.proofs.WalkBounds.{half_met}
-use Rattle.lemmas_walks.proofs.Firsts.{Contains-here, Contains-there, Contains-nil}
-use Rattle.lemmas_walks.proofs.ReadUnits.{narrower_bytes}
-use Rattle.lemmas_walks.proofs.Reaches.{only_one}
+use Rattle.rx_lemmas.proofs.WalkBounds.{half_met}
+use Rattle.rx_lemmas.proofs.Firsts.{Contains-here, Contains-there, Contains-nil}
+use Rattle.rx_lemmas.proofs.ReadUnits.{narrower_bytes}
+use Rattle.rx_lemmas.proofs.Reaches.{only_one}
 use Rattle.rx_meaning.specs.Bounds.{IsInBounds, HalfUnsplitInBounds, OverlappingUnsplitQuits}
 use Rattle.rx_meaning.specs.Bounds.{OverlappingUnsplitInBounds, IsNamed, Quitting, QuittingAgain, HalfUnsplitQuits}
 use Rattle.rx_meaning.specs.Bounds.{narrowed}

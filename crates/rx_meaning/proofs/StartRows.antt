@@ -4,7 +4,7 @@ use Rattle.rx_spec.proofs.Prelude.{None, List, [], ◌∷◌, length, slice_get,
 use Rattle.rx_spec.proofs.Prelude.{All-head, All-tail, slice_get_past, slice_get-get_or, All, get_or, option_or}
 use Rattle.rx_spec.proofs.Prelude.{option_and_then, range_with_len, AreBytes, contains, all_bytes, Expression}
 use Rattle.rx_spec.proofs.Prelude.{IsLoopSafe, ends, first_of, Row, compile, patterns_from, start_of_all, lead_in}
-use Rattle.lemmas_walks.proofs.RowPlaces.{Stands, stands-left, stands-right}
+use Rattle.rx_lemmas.proofs.RowPlaces.{Stands, stands-left, stands-right}
 use Rattle.rx_meaning.proofs.FirstSuccess.{first_of-alike, first_of-cons, first_of-nil, first_of-single}
 use Rattle.rx_meaning.proofs.Solution.{Valued, read_by, given, given_as}
 use Rattle.rx_meaning.proofs.Parts.{compile_means}

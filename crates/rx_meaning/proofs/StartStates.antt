@@ -2,16 +2,17 @@
 use Rattle.rx_spec.proofs.Prelude.{common_steps, ◌≡◌, ℕ, suc, ◌+◌, ◌-◌, ◌<◌, ◌≤◌, ◌⊎◌, inl, inr, ⊎_elim, false, Option}
 use Rattle.rx_spec.proofs.Prelude.{Some, None, Ok, [], ◌∷◌, length, refl, ap, sym, ◌∙◌, arith, option_and_then, Query}
 use Rattle.rx_spec.proofs.Prelude.{HalfMatch, reading, in_order, Nfa, facts_of, start_of, State, dead_state}
-use Rattle.rx_spec.proofs.Prelude.{start_state, state_at, fresh, Build, nfa_start, power, build_settings, plan_build}
+use Rattle.rx_spec.proofs.Prelude.{start_state, state_at, fresh, Build, nfa_start, power, build_settings}
+use Rattle.rx_plan.specs.Plans.{plan_build}
 use Rattle.rx_spec.proofs.Prelude.{start_row, whole_walk, beside, first_offset, walk, before}
 use Rattle.rx_spec.specs.Contexts.{start_facts}
 use Rattle.rx_spec.specs.declared.Direction.{Direction}
 use Rattle.rx_spec.specs.declared.Start.{Start}
-use Rattle.lemmas_walks.proofs.Facts.{start_knows}
-use Rattle.lemmas_walks.proofs.HalfSearches.{IsStarted, Begun, half_begun}
-use Rattle.lemmas_walks.proofs.ReadUnits.{units_from, units_from-alike, units_read, place_of, first_place}
-use Rattle.lemmas_walks.proofs.ReadUnits.{first_offset_is, beside_at_place}
-use Rattle.lemmas_walks.proofs.Walking.{state_walk}
+use Rattle.rx_lemmas.proofs.Facts.{start_knows}
+use Rattle.rx_lemmas.proofs.HalfSearches.{IsStarted, Begun, half_begun}
+use Rattle.rx_lemmas.proofs.ReadUnits.{units_from, units_from-alike, units_read, place_of, first_place}
+use Rattle.rx_lemmas.proofs.ReadUnits.{first_offset_is, beside_at_place}
+use Rattle.rx_lemmas.proofs.Walking.{state_walk}
 use Rattle.rx_meaning.specs.Preference.{build_half_search}
 use Rattle.rx_meaning.proofs.FirstSuccess.{first_of-nil, first_of-single}
 use Rattle.rx_meaning.proofs.Solution.{given}
@@ -19,7 +20,7 @@ use Rattle.rx_meaning.proofs.Closures.{first_given}
 use Rattle.rx_meaning.proofs.Scan.{read_in, valued, StandsAt, PlanQuery, scan_of}
 use Rattle.rx_meaning.proofs.StateAssertions.{state_gives}
 use Rattle.rx_meaning.proofs.LastWalks.{Foretold, walk_tells}
-use Rattle.lemmas_walks.proofs.Ranges.{or_none}
+use Rattle.rx_lemmas.proofs.Ranges.{or_none}
 
 -- a start row's state; where there is none, the dead one
 abbrev pub first_state : Nfa → Option ℕ → Start → State

@@ -7,8 +7,8 @@ use Rattle.rx_spec.proofs.Prelude.{state_at, decided_rows, holds_before}
 use Rattle.std.proofs.lemmas.Option.{unwrap_or-slice_get}
 use Rattle.std.specs.List.{AllByRecursion as Every}
 use Rattle.rx_spec.specs.declared.Look.{Look}
-use Rattle.lemmas_walks.proofs.Facts.{facts_decide, kept_last, kept_cover}
-use Rattle.lemmas_walks.proofs.ReadUnits.{unit_at}
+use Rattle.rx_lemmas.proofs.Facts.{facts_decide, kept_last, kept_cover}
+use Rattle.rx_lemmas.proofs.ReadUnits.{unit_at}
 use Rattle.rx_meaning.proofs.FirstSuccess.{first_of-single, first_of-flat_map, first_of-same}
 use Rattle.rx_meaning.proofs.FirstOccurrences.{firsts_keep}
 use Rattle.rx_meaning.proofs.Solution.{Valued, given}

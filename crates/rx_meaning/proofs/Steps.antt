@@ -6,15 +6,15 @@ use Rattle.rx_spec.proofs.Prelude.{first_of, Row, Nfa, unit_facts, row_at, Passi
 use Rattle.rx_spec.proofs.Prelude.{pattern_of, is_match_row, to_first_match, cut, target, step}
 use Rattle.rx_spec.specs.declared.Look.{Look}
 use Rattle.rx_spec.specs.declared.MatchKind.{MatchKind}
-use Rattle.lemmas_walks.proofs.Firsts.{by_test}
-use Rattle.lemmas_walks.proofs.ReadUnits.{unit_at}
+use Rattle.rx_lemmas.proofs.Firsts.{by_test}
+use Rattle.rx_lemmas.proofs.ReadUnits.{unit_at}
 use Rattle.rx_meaning.proofs.FirstSuccess.{first_of-nil, first_of-cons, first_of-single, first_of-append, first_of-none}
 use Rattle.rx_meaning.proofs.Solution.{Valued, read_by, given, gives_at, given_solves}
 use Rattle.rx_meaning.proofs.Closures.{IsReady, AllReady, closed_ready, first_given}
 use Rattle.rx_meaning.proofs.Scan.{Scan, read_in, valued, StandsAt, step_at}
 use Rattle.rx_meaning.proofs.StateAssertions.{state_gives, decided_gives}
-use Rattle.lemmas_walks.proofs.FirstMatch.{first_here, first_later, pattern_of-none}
-use Rattle.lemmas_walks.proofs.Ranges.{or_assoc, or_none}
+use Rattle.rx_lemmas.proofs.FirstMatch.{first_here, first_later, pattern_of-none}
+use Rattle.rx_lemmas.proofs.Ranges.{or_assoc, or_none}
 
 -- what a label is worth at a place, by the first pattern that is worth something
 abbrev pub label_worth : {V : Type 0} → (ℕ → ℕ → Option V) → ℕ → List ℕ → Option V

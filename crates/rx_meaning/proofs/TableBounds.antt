@@ -8,14 +8,14 @@ use Rattle.rx_spec.proofs.Prelude.{IsTable, IsSound, units_of, beside, first_off
 use Rattle.rx_spec.proofs.Prelude.{match_error, half_search, Item, Ending, overlapping}
 use Rattle.rx_spec.specs.HalfSearches.{beside_offset}
 use Rattle.rx_spec.specs.declared.Direction.{Direction}
-use Rattle.lemmas_walks.proofs.WalkBounds.{offset_after, Came, LeadsToQuit, units_count, offset_in_span, half_met}
-use Rattle.lemmas_walks.proofs.WalkBounds.{half_error}
-use Rattle.lemmas_walks.proofs.Firsts.{Contains-here}
-use Rattle.lemmas_walks.proofs.OverlappingBounds.{search_met, search_quit, search_refused}
-use Rattle.lemmas_walks.proofs.ReadUnits.{unit_at, get_or-units_from, units_read, place_of, first_place, next_byte}
-use Rattle.lemmas_walks.proofs.ReadUnits.{next_at_place, units_word}
-use Rattle.lemmas_walks.proofs.SilentRows.{IsRow}
-use Rattle.lemmas_walks.proofs.Words.{IsWord-take, run-within}
+use Rattle.rx_lemmas.proofs.WalkBounds.{offset_after, Came, LeadsToQuit, units_count, offset_in_span, half_met}
+use Rattle.rx_lemmas.proofs.WalkBounds.{half_error}
+use Rattle.rx_lemmas.proofs.Firsts.{Contains-here}
+use Rattle.rx_lemmas.proofs.OverlappingBounds.{search_met, search_quit, search_refused}
+use Rattle.rx_lemmas.proofs.ReadUnits.{unit_at, get_or-units_from, units_read, place_of, first_place, next_byte}
+use Rattle.rx_lemmas.proofs.ReadUnits.{next_at_place, units_word}
+use Rattle.rx_lemmas.proofs.SilentRows.{IsRow}
+use Rattle.rx_lemmas.proofs.Words.{IsWord-take, run-within}
 use Rattle.rx_meaning.specs.Bounds.{IsInBounds, HalfInBounds, OverlappingInBounds, IsNamed, Quitting, HalfQuits}
 use Rattle.rx_meaning.specs.Bounds.{OverlappingQuits, row_after, read_before}
 

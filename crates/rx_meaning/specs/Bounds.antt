@@ -14,7 +14,7 @@ use Rattle.rx_spec.specs.Overlapping.{Item, Ending, overlapping}
 use Rattle.rx_spec.specs.Splits.{narrower, skips_splits, half_unsplit, overlapping_unsplit}
 use Rattle.rx_spec.specs.Joining.{back_from, join}
 use Rattle.rx_spec.specs.Iterating.{iterate}
-use Rattle.rx_spec.specs.Plans.{Plan, outcome}
+use Rattle.rx_plan.specs.Plans.{Plan, outcome}
 use Rattle.rx_spec.specs.declared.Direction.{Direction}
 use Rattle.rx_meaning.specs.Preference.{build_half_search}
 

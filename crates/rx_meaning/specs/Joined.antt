@@ -5,7 +5,7 @@ use Rattle.rx_spec.specs.Expressions.{Expression, IsLoopSafe}
 use Rattle.rx_spec.specs.Ends.{ends}
 use Rattle.rx_spec.specs.Queries.{Query, reading, HalfMatch, MatchError}
 use Rattle.rx_spec.specs.Nfas.{is_always_start_anchored}
-use Rattle.rx_spec.specs.Plans.{Plan, plan_nfa, plan_build, outcome}
+use Rattle.rx_plan.specs.Plans.{Plan, plan_nfa, plan_build, outcome}
 use Rattle.rx_spec.specs.Joining.{Answer, match_at, joined_search}
 use Rattle.rx_spec.specs.declared.Direction.{Direction}
 use Rattle.rx_meaning.specs.Preference.{build_half_search}

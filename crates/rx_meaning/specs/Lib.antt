@@ -7,3 +7,7 @@ pub mod Tables
 pub mod Bounds
 -- how few rows a table can have
 pub mod Least
+-- the table of a plan that tells all matches
+pub mod AllBuilds
+-- what it tells at a place of a text
+pub mod AllMatches

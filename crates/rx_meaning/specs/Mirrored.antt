@@ -9,7 +9,7 @@ use Rattle.rx_spec.specs.Ends.{ends}
 use Rattle.rx_spec.specs.Queries.{Query, reading, HalfMatch}
 use Rattle.rx_spec.specs.Found.{first_of}
 use Rattle.rx_spec.specs.Joining.{back_from}
-use Rattle.rx_spec.specs.Plans.{Plan, plan_build}
+use Rattle.rx_plan.specs.Plans.{Plan, plan_build}
 use Rattle.rx_spec.specs.declared.Direction.{Direction}
 use Rattle.rx_meaning.specs.Preference.{build_half_search}
 

@@ -7,7 +7,7 @@ use Rattle.rx_spec.specs.Queries.{Query, Match, HalfMatch}
 use Rattle.rx_spec.specs.Found.{found}
 use Rattle.rx_spec.specs.Builds.{Build, power, build_settings}
 use Rattle.rx_spec.specs.HalfSearches.{HalfAnswer, half_search}
-use Rattle.rx_spec.specs.Plans.{Plan, plan_build}
+use Rattle.rx_plan.specs.Plans.{Plan, plan_build}
 use Rattle.rx_spec.specs.declared.Direction.{Direction}
 
 -- the half searches of a build's powerset machine

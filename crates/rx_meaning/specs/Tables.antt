@@ -15,7 +15,7 @@ use Rattle.rx_spec.specs.Splits.{skip_splits, split_limit, skips_splits, half_un
 use Rattle.rx_spec.specs.Splits.{overlapping_unsplit}
 use Rattle.rx_spec.specs.Joining.{Answer, match_at, joined_search, join}
 use Rattle.rx_spec.specs.Iterating.{iterate}
-use Rattle.rx_spec.specs.Plans.{Plan, plan_nfa, plan_build, outcome}
+use Rattle.rx_plan.specs.Plans.{Plan, plan_nfa, plan_build, outcome}
 use Rattle.rx_spec.specs.declared.Direction.{Direction}
 use Rattle.rx_meaning.specs.Preference.{build_half_search}
 use Rattle.rx_meaning.specs.Joined.{IsMatch}

@@ -9,6 +9,7 @@
 //! and [`least`] how few rows a table can have.
 #![tactic(auto)]
 
+pub mod all;
 pub mod bounds;
 pub mod joined;
 pub mod least;

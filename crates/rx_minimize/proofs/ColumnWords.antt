@@ -2,8 +2,8 @@
 use Rattle.rx_spec.proofs.Prelude.{common_steps, ◌≡◌, ℕ, ◌<◌, List, [], ◌∷◌, map, refl, sym, ap, ◌∙◌, subst, ⊎_elim}
 use Rattle.rx_spec.proofs.Prelude.{arith, Contains, slice_index, IsWord, run, AreToldApart, Table}
 use Rattle.rx_minimize.proofs.Prelude.{AreMovesByColumn, BehaveAlike}
-use Rattle.lemmas_walks.proofs.Firsts.{Contains-cases, Contains-there, Contains-nil}
-use Rattle.lemmas_walks.proofs.Words.{run-nil, run-cons, run-within, IsWord-nil, IsWord-cons, IsWord-head, IsWord-tail}
+use Rattle.rx_lemmas.proofs.Firsts.{Contains-cases, Contains-there, Contains-nil}
+use Rattle.rx_lemmas.proofs.Words.{run-nil, run-cons, run-within, IsWord-nil, IsWord-cons, IsWord-head, IsWord-tail}
 use Rattle.rx_refine.specs.Moves as moves
 use Rattle.rx_refine.specs.Moves.{Moves, label_after, row_after}
 

@@ -2,7 +2,7 @@
 use Rattle.rx_spec.proofs.Prelude.{common_steps, ◌≡◌, ◌≢◌, ℕ, ◌<◌, ◌≤◌, List, [], ◌∷◌, length, sym, ap, ◌∙◌, arith}
 use Rattle.rx_spec.proofs.Prelude.{⊎_elim, cases_eq, cases_lt, slice_index, Label, AreToldApart, Table, IsTable}
 use Rattle.rx_minimize.proofs.Prelude.{AreBlocks, AreNames, AreRenumbered, BehaveAlike, IsQuotient, apart}
-use Rattle.lemmas_walks.proofs.Words.{run-nil, run-cons, IsWord-nil, IsWord-cons}
+use Rattle.rx_lemmas.proofs.Words.{run-nil, run-cons, IsWord-nil, IsWord-cons}
 
 -- rows that behave alike have one label, and lead to rows that behave alike
 alike_label : (t : Table) (x y : ℕ) → BehaveAlike t x y → t.machine.label x ≡ t.machine.label y

@@ -8,7 +8,7 @@ ghost use Rattle.rx_minimize.specs.Blocks.{AreBlocks};
 use crate::labels::labels;
 use rx_dense::OwnedDFA;
 use rx_refine::{Incoming, Steps, refine};
-use rx_steps::Tally;
+use rx_spec::Tally;
 use std::alloc::{AllocError, Global};
 
 /// The number of each row's block. Two rows have one number exactly if they behave alike.

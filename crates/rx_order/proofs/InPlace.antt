@@ -6,7 +6,7 @@ use Rattle.rx_order.proofs.Prelude.{AreStarts, AreUnmoved, IsMachineRenamed, IsN
 use Rattle.rx_order.proofs.Prelude.{Layout, column, column_within, ids_of, quotient, renamed_id, row-below, row_count}
 use Rattle.rx_order.proofs.Prelude.{start_is_row, stride}
 use Rattle.std.proofs.lemmas.List.Folds.{map_fixed}
-use Rattle.lemmas_tables.proofs.Ids.{id_of-dense}
+use Rattle.rx_lemmas.proofs.Ids.{id_of-dense}
 use Rattle.rx_order.proofs.ExchangedRows.{count_of, places_apart, row_below}
 use Rattle.rx_dense.specs.Builder.{renamed}
 use Rattle.rx_dense.specs.Layouts.{AreRows, IsRowId}

@@ -1,5 +1,5 @@
 -- What proofs take from other modules, in one module.
-pub use Rattle.lemmas_tables.proofs.Filters.{every_in_range, filter_alike, filter_within, range_within}
+pub use Rattle.rx_lemmas.proofs.Filters.{every_in_range, filter_alike, filter_within, range_within}
 pub use Rattle.rx_base.specs.ByteClasses.{AreClasses, alphabet_len}
 pub use Rattle.rx_dense.proofs.Rows.{IsId-row_id, IsRowId-row, column_within, id_at_row, id_few, multiple_below}
 pub use Rattle.rx_dense.proofs.Rows.{multiple_within, quotient, row-below, row_of-row, start_is_row, start_within}

@@ -4,7 +4,7 @@ use Rattle.rx_spec.proofs.Prelude.{◌∷◌, length, slice_index, Some, sym, ap
 use Rattle.rx_spec.proofs.Prelude.{Contains, ◌||◌, false≢true, AreToldApart, IsReachedRow, SameLabels, IsWord, Label}
 use Rattle.rx_spec.proofs.Prelude.{Settings, run, Anchored, IsSound, IsTable, Table, is_match, leaving}
 use Rattle.rx_order.proofs.Prelude.{IsPermuted, Start}
-use Rattle.lemmas_walks.proofs.Words.{run-nil, run-cons, run-within, IsWord-head, IsWord-tail}
+use Rattle.rx_lemmas.proofs.Words.{run-nil, run-cons, run-within, IsWord-head, IsWord-tail}
 use Rattle.rx_order.proofs.ExchangedRows.{place_of-row, row_at_place, row_below}
 
 -- Each row of the first table has a name, which is a row of the second one: this leads to the names of the rows to

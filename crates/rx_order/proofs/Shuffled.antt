@@ -18,7 +18,7 @@ use Rattle.std.specs.List.{slice_get}
 use Rattle.std.proofs.lemmas.Map.Entries.{length-keys_of, length-values_of, place_from_lookup}
 use Rattle.std.proofs.lemmas.Map.Keys.{IsStrictlyIncreasing-from_sorted, below_from_sorted}
 use Rattle.std.proofs.lemmas.Map.Keys.{sorted_from_strictly_increasing}
-use Rattle.lemmas_walks.proofs.Firsts.{Contains-cases, Contains-here, Contains-nil, Contains-there}
+use Rattle.rx_lemmas.proofs.Firsts.{Contains-cases, Contains-here, Contains-nil, Contains-there}
 use Rattle.rx_dense.proofs.MatchMaps.{any_contains, any_has, has_key, is_at_number}
 use Rattle.rx_order.proofs.Moved.{factor}
 use Rattle.rx_order.proofs.MatchRows.{HasPatterns, label_at, joined}

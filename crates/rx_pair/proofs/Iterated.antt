@@ -3,9 +3,9 @@ use Rattle.rx_spec.proofs.Prelude.{◌≡◌, Some, None, Option, List, [], ◌�
 use Rattle.rx_spec.proofs.Prelude.{All-append, All-cons, All-map, All-nil, All-weaker, and_then, iterate, Answer, join}
 use Rattle.rx_spec.proofs.Prelude.{Query, Match, MatchError, LiesIn, Table}
 use Rattle.rx_base.specs.Searcher.{Search}
-use Rattle.lemmas_tables.proofs.Iterating as iterating
-use Rattle.lemmas_tables.proofs.Iterating.{from_end, matches_again, matches_lie, told_next}
-use Rattle.lemmas_tables.proofs.Joining.{join_orderly}
+use Rattle.rx_lemmas.proofs.Iterating as iterating
+use Rattle.rx_lemmas.proofs.Iterating.{from_end, matches_again, matches_lie, told_next}
+use Rattle.rx_lemmas.proofs.Joining.{join_orderly}
 use Rattle.rx_pair.specs.Matches.{items, matches_left}
 
 -- what is left behind a match

@@ -1,6 +1,6 @@
 -- The plan of the definitions that a plan of the code means.
 use Rattle.std.specs.Prelude.{true, false, None}
-use Rattle.rx_spec.specs.Plans as plans
+use Rattle.rx_plan.specs.Plans as plans
 use Rattle.rx_spec.specs.declared.Form.{Form}
 use Rattle.rx_spec.specs.declared.StartKind.{StartKind}
 use Rattle.rx_plan.specs.declared.Plan.{Plan}

@@ -4,7 +4,7 @@ use Rattle.rx_spec.proofs.Prelude.{unit_facts, holds_read, Nfa, State, Tested, r
 use Rattle.rx_spec.proofs.Prelude.{target, state_at, step}
 use Rattle.rx_spec.specs.declared.Direction.{Direction}
 use Rattle.rx_spec.specs.declared.MatchKind.{MatchKind}
-use Rattle.rx_powerset.specs.Closures.{closed_rows}
+use Rattle.rx_spec.specs.Closures.{closed_rows}
 
 -- what an answer is known to be, by what that equals
 pub answered : {S E T : Type 0} (f : S → T) (r : Result S E) {a b : T} → a ≡ b → IfOk r (λ s. f s ≡ a)

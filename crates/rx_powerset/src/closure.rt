@@ -4,7 +4,8 @@ ghost use Rattle.std.specs.Prelude.{◌≡◌, ◌++◌, ◌<◌, ◌≤◌, len
 ghost use Rattle.rx_spec.specs.Contexts.{holds_read};
 ghost use Rattle.rx_spec.specs.States.{row_at};
 ghost use Rattle.rx_expr.specs.Nfa.{meaning, row_of};
-ghost use Rattle.rx_powerset.specs.Closures.{own_by, branches_by, passing_of, closed_rows};
+ghost use Rattle.rx_spec.specs.Closures.{own_by, branches_by, closed_rows};
+ghost use Rattle.rx_powerset.specs.Passing.{passing_of};
 
 use rx_base::{Direction, Facts, Look, StateID};
 use rx_expr::thompson::{NFA, Row};

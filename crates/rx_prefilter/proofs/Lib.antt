@@ -18,3 +18,7 @@ pub mod Backwards
 pub mod LiteralSearches
 -- worked examples
 pub mod Examples
+-- how a text goes on of which the last bytes are kept
+pub mod Seeking
+-- literals in the part of a window that belongs to a span
+pub mod Showing

@@ -7,7 +7,7 @@ use Rattle.rx_spec.proofs.Prelude.{HalfMatch, IsFit, MatchError, Query, is_ancho
 use Rattle.rx_spec.proofs.Prelude.{skips_splits, start_error, start_row, IsSound, Table, cases_Bool, inl, inr}
 use Rattle.rx_spec.specs.declared.Direction.{Direction}
 use Rattle.memchr.specs.Find.{OccursAt}
-use Rattle.lemmas_walks.proofs.ReadUnits.{beside_is_byte}
+use Rattle.rx_lemmas.proofs.ReadUnits.{beside_is_byte}
 use Rattle.rx_search.specs.Starts.{IsStart}
 use Rattle.rx_search.proofs.Halves.{begun}
 use Rattle.rx_search.proofs.Standing.{Standing}

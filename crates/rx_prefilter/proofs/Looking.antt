@@ -3,9 +3,9 @@ use Rattle.rx_spec.proofs.Prelude.{common_steps, ◌≡◌, ◌≢◌, ℕ, suc,
 use Rattle.rx_spec.proofs.Prelude.{◌∷◌, length, slice_index, ap, refl, sym, ◌∙◌, subst, ⊎_elim, arith, cases_lt}
 use Rattle.rx_spec.proofs.Prelude.{AreBytes, eoi, HalfAnswer, next_offset, walk, IsWord, Label, Query, IsSound, Table}
 use Rattle.rx_spec.specs.declared.Direction.{Direction}
-use Rattle.lemmas_walks.proofs.ReadUnits.{units_word}
-use Rattle.lemmas_walks.proofs.Walking.{walk-cons, walk-nil}
-use Rattle.lemmas_walks.proofs.Words.{IsWord-head}
+use Rattle.rx_lemmas.proofs.ReadUnits.{units_word}
+use Rattle.rx_lemmas.proofs.Walking.{walk-cons, walk-nil}
+use Rattle.rx_lemmas.proofs.Words.{IsWord-head}
 use Rattle.rx_search.specs.Walks.{last_offset, rest, unit_ahead, units_left}
 use Rattle.rx_search.proofs.Halves.{walk_stops}
 use Rattle.rx_search.proofs.Standing.{Standing}

@@ -5,9 +5,9 @@ use Rattle.rx_spec.proofs.Prelude.{false_from_ne_true, eqb-true, AreBytes, unit_
 use Rattle.rx_spec.proofs.Prelude.{next_offset, span_bytes, units_of, walk, after, IsWord, Label, HalfMatch, Query}
 use Rattle.rx_spec.proofs.Prelude.{Table, is_match}
 use Rattle.rx_spec.specs.declared.Direction.{Direction}
-use Rattle.lemmas_walks.proofs.ReadUnits.{units_word}
-use Rattle.lemmas_walks.proofs.Walking.{walk-cons, walk-nil}
-use Rattle.lemmas_walks.proofs.Words.{IsWord-head, IsWord-tail}
+use Rattle.rx_lemmas.proofs.ReadUnits.{units_word}
+use Rattle.rx_lemmas.proofs.Walking.{walk-cons, walk-nil}
+use Rattle.rx_lemmas.proofs.Words.{IsWord-head, IsWord-tail}
 use Rattle.rx_search.specs.Labels.{patterns_of}
 use Rattle.rx_search.specs.Walks.{rest, units_left}
 use Rattle.rx_search.proofs.Standing.{Standing, match_label}

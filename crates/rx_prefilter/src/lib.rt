@@ -9,6 +9,7 @@ pub mod laws;
 mod literal;
 mod only;
 mod search;
+pub mod seek;
 
 pub use only::{OnlyLiteral, only_literal};
 pub use search::{Answer, try_search};

@@ -12,7 +12,7 @@ ghost use Rattle.rx_refine.specs.Keys.{waiting_reads, TakesAll};
 use crate::keys::read_keys;
 use crate::lists::Incoming;
 use crate::partition::Partition;
-use rx_steps::Steps;
+use rx_spec::Steps;
 use std::alloc::{AllocError, Global};
 
 /// The number of each row's block. Two rows are in one block exactly if they behave alike for the labels `first`: every

@@ -7,7 +7,7 @@ ghost use Rattle.rx_refine.specs.Keys.{waiting_reads, AreNextKeys};
 
 use crate::lists::Incoming;
 use crate::numbers::clear;
-use rx_steps::Steps;
+use rx_spec::Steps;
 
 /// Writes the block into which the unit leads each row to `keys`, or 0 if that block is below `taken`. Reads the lists
 /// of the rows in the other blocks, in the order of the rows.

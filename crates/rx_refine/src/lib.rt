@@ -23,4 +23,4 @@ mod table;
 
 pub use hopcroft::refine;
 pub use lists::Incoming;
-pub use rx_steps::Steps;
+pub use rx_spec::Steps;

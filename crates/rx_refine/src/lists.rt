@@ -7,7 +7,7 @@ ghost use Rattle.rx_refine.specs.Moves.{Moves, AreMoves, sources, next_row};
 use crate::columns::columns_of;
 use crate::groups::Groups;
 use crate::table::Table;
-use rx_steps::Steps;
+use rx_spec::Steps;
 use std::alloc::{AllocError, Global};
 use std::marker::{Model, PhantomData};
 

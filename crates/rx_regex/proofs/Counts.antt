@@ -1,5 +1,6 @@
 -- How many rows the tables of a plan have.
-use Rattle.rx_spec.proofs.Prelude.{arith, ◌≡◌, Bool, true, false, refl, List, common_steps, Build, Expression, Plan}
+use Rattle.rx_spec.proofs.Prelude.{arith, ◌≡◌, Bool, true, false, refl, List, common_steps, Build, Expression}
+use Rattle.rx_plan.specs.Plans.{Plan}
 use Rattle.rx_spec.proofs.Prelude.{IsPower, Table}
 use Rattle.rx_spec.specs.Labels.{IsLeastFor}
 use Rattle.rx_dense.specs.Layouts.{Layout, table_of}

@@ -1,5 +1,6 @@
 -- A search that ends by an error, as a fault of the whole search.
-use Rattle.rx_spec.proofs.Prelude.{arith, ◌≡◌, Err, List, common_steps, Expression, Plan, outcome, Query, MatchError}
+use Rattle.rx_spec.proofs.Prelude.{arith, ◌≡◌, Err, List, common_steps, Expression, Query, MatchError}
+use Rattle.rx_plan.specs.Plans.{Plan, outcome}
 use Rattle.rx_regex.specs.Find.{Answers, PlanFits, Tells}
 use Rattle.rx_regex.specs.declared.error.FindFault.{FindFault}
 

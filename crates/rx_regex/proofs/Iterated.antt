@@ -1,6 +1,7 @@
 -- The matches that the tables of a plan tell one after another.
 use Rattle.rx_spec.proofs.Prelude.{arith, ◌≡◌, ◌-◌, Ok, Err, List, Result, All, IfOk, refl, common_steps, Expression}
-use Rattle.rx_spec.proofs.Prelude.{iterate, Plan, outcome, Query, Match, MatchError, LiesIn}
+use Rattle.rx_spec.proofs.Prelude.{iterate, Query, Match, MatchError, LiesIn}
+use Rattle.rx_plan.specs.Plans.{Plan, outcome}
 use Rattle.rx_meaning.proofs.IteratedSearches.{from, iterate_alike}
 use Rattle.rx_image.specs.Pairs.{Pair}
 use Rattle.rx_regex.specs.Pairs.{AreTables, joined, whole}

@@ -1,7 +1,8 @@
 -- Both tables of a plan as one image: it can be written and read again, and the tables that are read find what the plan
 -- and its expressions say.
 use Rattle.rx_spec.proofs.Prelude.{◌≡◌, ℕ, List, [], length, Ok, refl, sym, ap, ◌∙◌, append-nil, Expression, nfa_of}
-use Rattle.rx_spec.proofs.Prelude.{Plan, Query}
+use Rattle.rx_spec.proofs.Prelude.{Query}
+use Rattle.rx_plan.specs.Plans.{Plan}
 use Rattle.rx_build.specs.Builders.{Both}
 use Rattle.rx_dense.specs.Layouts.{Layout}
 use Rattle.rx_expr.specs.Compiles.{wanted_nfa}

@@ -1,16 +1,17 @@
 -- What refuses a table by a plan's settings refuses the plan.
 use Rattle.rx_spec.proofs.Prelude.{arith, ◌≡◌, sym, ap, subst, List, common_steps, BuildCause, BuildFits, Expression}
-use Rattle.rx_spec.proofs.Prelude.{Build, Plan, Cause}
+use Rattle.rx_spec.proofs.Prelude.{Build, Cause}
+use Rattle.rx_plan.specs.Plans.{Plan}
 use Rattle.rx_spec.specs.Causes.{BuildRefused, Limits}
-use Rattle.rx_spec.specs.Plans.{DirectionFits, DirectionRefused, plan_limits}
+use Rattle.rx_plan.specs.Plans.{DirectionFits, DirectionRefused, plan_limits}
 use Rattle.rx_spec.specs.declared.Direction.{Direction}
 use Rattle.rx_spec.specs.declared.Form.{Form}
 use Rattle.rx_build.specs.Builders.{Both}
 use Rattle.rx_build.specs.Built.{limits_of}
 use Rattle.rx_build.specs.Settings.{settled}
 use Rattle.rx_build.proofs.Beginnings.{refused_as}
-use Rattle.rx_build_error.specs.Refusals.{IsRefused}
-use Rattle.rx_build_error.specs.declared.BuildErrorKind.{BuildErrorKind}
+use Rattle.rx_expr.specs.Refusals.{IsRefused}
+use Rattle.rx_expr.specs.declared.build_error.BuildErrorKind.{BuildErrorKind}
 use Rattle.rx_regex_builder.specs.Pairs.{IsFitBy, IsRefusedBy, IsSparseFitBy, IsSparseRefusedBy, in_direction}
 use Rattle.rx_sparse_build.specs.Built.{sparse_limits}
 use Rattle.rx_regex.specs.Find.{PlanRefused}

@@ -1,7 +1,8 @@
 -- Searches of the tables of a plan.
 use Rattle.rx_spec.proofs.Prelude.{arith, ◌≡◌, ◌≢◌, ◌≤◌, Option, Some, None, Ok, Err, IfErr, List, length, refl, ap}
 use Rattle.rx_spec.proofs.Prelude.{sym, ◌∙◌, subst, common_steps, AreBytes, Expression, HalfAnswer, Answer, with_end}
-use Rattle.rx_spec.proofs.Prelude.{Plan, unless_error, outcome, Query, Match, HalfMatch, MatchError, half_unsplit}
+use Rattle.rx_spec.proofs.Prelude.{Query, Match, HalfMatch, MatchError, half_unsplit}
+use Rattle.rx_plan.specs.Plans.{Plan, unless_error, outcome}
 use Rattle.std.proofs.Math.Logic.{∥∥₁_elim}
 use mathlib.Core.HLevel.{⊥_prop}
 use Rattle.rx_spec.specs.declared.Direction.{Direction}

@@ -1,13 +1,14 @@
 -- A pair of tables that is built as a plan's is serves the plan: the tables give its builds, and pass over no match
 -- that splits a character.
 use Rattle.rx_spec.proofs.Prelude.{arith, ◌≡◌, ◌&&◌, ℕ, Bool, false, refl, ap, ◌∙◌, List, All, common_steps, Build}
-use Rattle.rx_spec.proofs.Prelude.{Expression, Nfa, nfa_of, is_always_start_anchored, Plan, plan_build, plan_nfa}
+use Rattle.rx_spec.proofs.Prelude.{Expression, Nfa, nfa_of, is_always_start_anchored}
+use Rattle.rx_plan.specs.Plans.{Plan, plan_build, plan_nfa}
 use Rattle.rx_spec.proofs.Prelude.{skips_splits, Table, and-false}
 use Rattle.rx_spec.specs.declared.Direction.{Direction}
 use Rattle.rx_dense.specs.Layouts.{Layout, table_of}
 use Rattle.rx_dense.specs.declared.flags.Flags.{Flags}
 use Rattle.rx_expr.specs.Compiles.{wanted_nfa}
-use Rattle.rx_all.specs.Matches.{ServesAll}
+use Rattle.rx_meaning.specs.AllMatches.{ServesAll}
 use Rattle.rx_meaning.specs.Tables.{Serves, ServePlan}
 use Rattle.rx_build.specs.Builders.{Both}
 use Rattle.rx_build.specs.Built.{IsBuilt, build_of}

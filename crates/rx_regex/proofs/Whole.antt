@@ -1,12 +1,13 @@
 -- Tables of a plan can be written and read again.
 use Rattle.rx_spec.proofs.Prelude.{arith, ◌≡◌, ℕ, ◌^◌, ◌<◌, List, [], ◌++◌, length, All, Ok, Result, sym, ap, ◌∙◌}
-use Rattle.rx_spec.proofs.Prelude.{subst, append-nil, common_steps, Expression, IsLoopSafe, Plan}
+use Rattle.rx_spec.proofs.Prelude.{subst, append-nil, common_steps, Expression, IsLoopSafe}
+use Rattle.rx_plan.specs.Plans.{Plan}
 use Rattle.rx_spec.specs.declared.Direction.{Direction}
 use Rattle.rx_spec.specs.declared.Form.{Form}
 use Rattle.rx_build.specs.Builders.{Both}
 use Rattle.rx_build.specs.Settings.{settled}
-use Rattle.rx_built_images.proofs.BuiltTables.{built_whole}
-use Rattle.rx_built_images.proofs.BuiltSparseTables as sparse_built
+use Rattle.rx_sparse_build.proofs.BuiltTables.{built_whole}
+use Rattle.rx_sparse_build.proofs.BuiltSparseTables as sparse_built
 use Rattle.rx_dense.specs.Layouts.{IsShaped, Layout}
 use Rattle.rx_dense_image.specs.Images.{IsWhole, reads, text}
 use Rattle.rx_dense_image.proofs.WholeAgain.{whole_again}

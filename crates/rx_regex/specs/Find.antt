@@ -2,11 +2,12 @@
 use Rattle.std.specs.Prelude.{◌≡◌, ◌≢◌, ◌⊎◌, Result, Ok, Err, List}
 use Rattle.rx_spec.specs.Expressions.{Expression}
 use Rattle.rx_spec.specs.Queries.{Query, MatchError}
-use Rattle.rx_spec.specs.Plans.{Plan, Cause, DirectionFits, DirectionRefused, outcome}
+use Rattle.rx_plan.specs.Plans.{Plan, DirectionFits, DirectionRefused, outcome}
+use Rattle.rx_spec.specs.Causes.{Cause}
 use Rattle.rx_spec.specs.declared.Direction.{Direction}
 use Rattle.rx_base.specs.Search.{mode_of}
-use Rattle.rx_build_error.specs.Refusals.{IsRefused}
-use Rattle.rx_build_error.specs.declared.BuildErrorKind.{BuildErrorKind}
+use Rattle.rx_expr.specs.Refusals.{IsRefused}
+use Rattle.rx_expr.specs.declared.build_error.BuildErrorKind.{BuildErrorKind}
 use Rattle.rx_regex.specs.Rows.{HaveRows}
 use Rattle.rx_regex.specs.declared.error.FindFault.{FindFault}
 use Rattle.rx_regex.specs.declared.find.Answer.{Answer}

@@ -2,14 +2,14 @@
 use Rattle.std.specs.Prelude.{◌≡◌, ℕ, List, length, ◌++◌, Ok, All}
 use Rattle.rx_spec.specs.Bytes.{AreBytes}
 use Rattle.rx_spec.specs.Expressions.{Expression, IsLoopSafe}
-use Rattle.rx_spec.specs.Plans.{Plan, outcome}
+use Rattle.rx_plan.specs.Plans.{Plan, outcome}
 use Rattle.rx_spec.specs.Queries.{IsFit, Query}
 use Rattle.rx_spec.specs.declared.Form.{Form}
 use Rattle.rx_dense.specs.Layouts.{Layout, table_of}
 use Rattle.rx_dense_image.specs.Images as dense
 use Rattle.rx_image.specs.Pairs.{Pair, in_order, reads, text}
-use Rattle.rx_all.specs.Builds.{all_build}
-use Rattle.rx_all.specs.Matches.{ServesAll}
+use Rattle.rx_meaning.specs.AllBuilds.{all_build}
+use Rattle.rx_meaning.specs.AllMatches.{ServesAll}
 use Rattle.rx_regex_builder.specs.Pairs.{IsOf, IsSparseOf, in_direction}
 use Rattle.rx_sparse.specs.Layouts.{Stored}
 use Rattle.rx_sparse.specs.Layouts as stored

@@ -2,7 +2,7 @@
 use Rattle.std.specs.Prelude.{◌≡◌, false, List, All}
 use Rattle.rx_spec.specs.Expressions.{Expression, IsLoopSafe}
 use Rattle.rx_spec.specs.Joining.{Answer, join}
-use Rattle.rx_spec.specs.Plans.{Plan}
+use Rattle.rx_plan.specs.Plans.{Plan}
 use Rattle.rx_spec.specs.Queries.{Query}
 use Rattle.rx_spec.specs.Tables.{Table}
 use Rattle.rx_spec.specs.declared.Form.{Form}

@@ -2,10 +2,11 @@
 use Rattle.std.specs.Prelude.{List}
 use Rattle.rx_spec.specs.Builds.{Build}
 use Rattle.rx_spec.specs.Expressions.{Expression}
-use Rattle.rx_spec.specs.Plans.{Cause, DirectionFits, DirectionRefused, Plan, plan_build}
+use Rattle.rx_plan.specs.Plans.{DirectionFits, DirectionRefused, Plan, plan_build}
+use Rattle.rx_spec.specs.Causes.{Cause}
 use Rattle.rx_spec.specs.declared.Direction.{Direction}
 use Rattle.rx_spec.specs.declared.MatchKind.{MatchKind}
-use Rattle.rx_all.specs.Builds.{AllFits, AllRefused, all_build}
+use Rattle.rx_meaning.specs.AllBuilds.{AllFits, AllRefused, all_build}
 use Rattle.rx_regex.specs.declared.plan_table.PlanTable.{PlanTable}
 
 -- the direction in which a table is searched

@@ -3,7 +3,7 @@ use Rattle.std.specs.Prelude.{ℕ, ◌≡◌, ◌≤◌, false, Some, Ok, Err, L
 use Rattle.rx_spec.specs.Bytes.{AreBytes}
 use Rattle.rx_spec.specs.Expressions.{Expression, IsLoopSafe}
 use Rattle.rx_spec.specs.Joining.{match_at}
-use Rattle.rx_spec.specs.Plans.{Plan, outcome}
+use Rattle.rx_plan.specs.Plans.{Plan, outcome}
 use Rattle.rx_spec.specs.Queries.{Query, HalfMatch, MatchError}
 use Rattle.rx_spec.specs.Splits.{half_unsplit}
 use Rattle.rx_spec.specs.declared.Direction.{Direction}

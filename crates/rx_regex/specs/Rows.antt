@@ -3,7 +3,7 @@ use Rattle.std.specs.Prelude.{ℕ, ◌≡◌, ◌+◌, Bool, true, false, List, 
 use Rattle.rx_spec.specs.Expressions.{Expression}
 use Rattle.rx_spec.specs.Builds.{Build, AreReached}
 use Rattle.rx_spec.specs.Labels.{IsLeastFor}
-use Rattle.rx_spec.specs.Plans.{Plan}
+use Rattle.rx_plan.specs.Plans.{Plan}
 use Rattle.rx_spec.specs.States.{State}
 use Rattle.rx_regex.specs.PlanTables.{table_build}
 use Rattle.rx_regex.specs.declared.plan_table.PlanTable.{PlanTable}

@@ -1,6 +1,6 @@
 -- The settings that a plan asks for.
 use Rattle.std.specs.Prelude.{false, Some}
-use Rattle.rx_spec.specs.Plans.{Plan}
+use Rattle.rx_plan.specs.Plans.{Plan}
 use Rattle.rx_spec.specs.declared.MatchKind.{MatchKind}
 use Rattle.rx_build.specs.Builders.{Both}
 use Rattle.rx_build.specs.Settings as dense

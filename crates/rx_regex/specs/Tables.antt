@@ -1,7 +1,7 @@
 -- The tables of a plan in memory.
 use Rattle.std.specs.Prelude.{List}
 use Rattle.rx_spec.specs.Expressions.{Expression}
-use Rattle.rx_spec.specs.Plans.{Plan}
+use Rattle.rx_plan.specs.Plans.{Plan}
 use Rattle.rx_regex.specs.Forms.{pair_of}
 use Rattle.rx_regex.specs.Pairs.{AreTables}
 use Rattle.rx_regex.specs.declared.tables.Built.{Built}

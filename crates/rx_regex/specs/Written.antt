@@ -1,7 +1,7 @@
 -- Tables of a plan that can be written and read back.
 use Rattle.std.proofs.Common.{◌≡◌, List, All, refl, sym, ap, ◌∙◌}
 use Rattle.rx_spec.specs.Expressions.{Expression, IsLoopSafe}
-use Rattle.rx_spec.specs.Plans.{Plan}
+use Rattle.rx_plan.specs.Plans.{Plan}
 use Rattle.rx_spec.specs.declared.Form.{Form}
 use Rattle.rx_dense.specs.Layouts.{Layout}
 use Rattle.rx_dense_image.specs.Images as dense

@@ -4,10 +4,10 @@ ghost use Rattle.std.specs.Prelude.{◌≡◌, All, IfOk, IfErr, IfSome, OnOk, L
 ghost use Rattle.rx_spec.specs.Bytes.{AreBytes};
 ghost use Rattle.rx_spec.specs.Expressions.{Expression};
 ghost use Rattle.rx_spec.specs.Iterating.{iterate};
-ghost use Rattle.rx_spec.specs.Plans.{Plan as SearchPlan, outcome};
+ghost use Rattle.rx_plan.specs.Plans.{Plan as SearchPlan, outcome};
 ghost use Rattle.rx_spec.specs.Queries.{IsFit, LiesIn};
 ghost use Rattle.rx_base.specs.Input.{query_of};
-ghost use Rattle.rx_build_error.specs.Refusals.{IsRefused};
+ghost use Rattle.rx_expr.specs.Refusals.{IsRefused};
 ghost use Rattle.rx_pair.specs.Matches.{items};
 ghost use Rattle.rx_plan.specs.Plan.{plan_of};
 ghost use Rattle.rx_regex.specs.Find.{IsPaired, PlanFits, PlanRefused};

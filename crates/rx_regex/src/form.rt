@@ -2,9 +2,9 @@
 
 ghost use Rattle.std.specs.Prelude.{◌≡◌, IfOk, IfErr, OnOk, List};
 ghost use Rattle.rx_spec.specs.Expressions.{Expression};
-ghost use Rattle.rx_spec.specs.Plans.{Plan as SearchPlan};
+ghost use Rattle.rx_plan.specs.Plans.{Plan as SearchPlan};
 ghost use Rattle.rx_spec.specs.declared.Form.{Form};
-ghost use Rattle.rx_build_error.specs.Refusals.{IsRefused};
+ghost use Rattle.rx_expr.specs.Refusals.{IsRefused};
 ghost use Rattle.rx_image.specs.Pairs.{HaveSamePatterns, Pair, text};
 ghost use Rattle.rx_image.specs.Tables.{AreSound, pair_of};
 ghost use Rattle.rx_plan.specs.Plan.{plan_of};

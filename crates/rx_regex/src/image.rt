@@ -1,7 +1,7 @@
 //! Images of the tables of a plan.
 
 ghost use Rattle.std.specs.Prelude.{◌≡◌, IfOk, IfErr, OnOk};
-ghost use Rattle.rx_build_error.specs.Refusals.{IsRefused};
+ghost use Rattle.rx_expr.specs.Refusals.{IsRefused};
 ghost use Rattle.rx_plan.specs.Plan.{plan_of};
 ghost use Rattle.rx_regex.specs.Images.{IsImage};
 ghost use Rattle.rx_regex.specs.PlanTables.{TableFits, TableRefused};

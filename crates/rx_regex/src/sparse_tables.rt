@@ -9,11 +9,10 @@ use crate::form::TableForm;
 use crate::planned::table_builder;
 use rx_build::BuildError;
 use rx_expr::Expr;
-use rx_image::{Tables, sparse_pair};
+use rx_image::{SparseRead, SparseWrite, Tables, sparse_pair};
 use rx_pair::Regex;
 use rx_plan::Plan;
 use rx_sparse::DFA;
-use rx_sparse_image::{SparseRead, SparseWrite};
 use rx_wire::Order;
 use std::alloc::{AllocError, Global};
 

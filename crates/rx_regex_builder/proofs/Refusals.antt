@@ -2,8 +2,8 @@
 use Rattle.rx_spec.proofs.Prelude.{inr, List, Expression, Cause}
 use Rattle.rx_build.specs.Builders.{Both}
 use Rattle.rx_build.proofs.Beginnings.{refused_as}
-use Rattle.rx_build_error.specs.Refusals.{IsRefused}
-use Rattle.rx_build_error.specs.declared.BuildErrorKind.{BuildErrorKind}
+use Rattle.rx_expr.specs.Refusals.{IsRefused}
+use Rattle.rx_expr.specs.declared.build_error.BuildErrorKind.{BuildErrorKind}
 use Rattle.rx_regex_builder.specs.Pairs.{PairRefused, in_reverse}
 
 module _ (IsFit : Both → List Expression → Type 0) (IsOneRefused : Both → List Expression → Cause → Type 0) where

@@ -1,7 +1,7 @@
 -- The two tables of a list of expressions, dense or sparse, and the causes that refuse them.
 use Rattle.std.specs.Prelude.{true, false, Some, List, ◌⊎◌}
 use Rattle.rx_spec.specs.Expressions.{Expression}
-use Rattle.rx_spec.specs.Plans.{Cause}
+use Rattle.rx_spec.specs.Causes.{Cause}
 use Rattle.rx_spec.specs.declared.Direction.{Direction}
 use Rattle.rx_spec.specs.declared.MatchKind.{MatchKind}
 use Rattle.rx_spec.specs.declared.StartKind.{StartKind}

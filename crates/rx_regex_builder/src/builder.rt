@@ -4,7 +4,7 @@ ghost use Rattle.std.specs.Prelude.{◌≡◌, All, IfOk, IfErr, OnOk};
 ghost use Rattle.rx_spec.specs.Expressions.{IsLoopSafe};
 ghost use Rattle.rx_build.specs.Builders as tables;
 ghost use Rattle.rx_build.specs.Settings.{asked, overwritten};
-ghost use Rattle.rx_build_error.specs.Refusals.{IsRefused};
+ghost use Rattle.rx_expr.specs.Refusals.{IsRefused};
 ghost use Rattle.rx_expr.specs.Settings as nfa;
 ghost use Rattle.rx_regex_builder.specs.Pairs.{taken};
 

@@ -3,7 +3,7 @@
 ghost use Rattle.std.specs.Prelude.{◌≡◌, All, IfOk, IfErr, OnOk};
 ghost use Rattle.rx_spec.specs.Expressions.{IsLoopSafe};
 ghost use Rattle.rx_build.specs.Builders.{none_asked};
-ghost use Rattle.rx_build_error.specs.Refusals.{IsRefused};
+ghost use Rattle.rx_expr.specs.Refusals.{IsRefused};
 ghost use Rattle.rx_regex_builder.specs.Pairs.{AreBothFit, AreBuilt, PairRefused, both_of};
 ghost use Rattle.rx_regex_builder.specs.Pairs.{IsFitBy, IsOf, IsRefusedBy};
 ghost use Rattle.rx_regex_builder.specs.Pairs.{IsSparseFitBy, IsSparseOf, IsSparseRefusedBy};

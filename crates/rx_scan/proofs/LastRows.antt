@@ -15,13 +15,13 @@ use Rattle.rx_search.proofs.Walks.{last_match, last_ends, loops, unread_quiet}
 use Rattle.rx_stream.specs.Pieces.{IsSkip}
 use Rattle.rx_search.proofs.Halves.{Open, some_pattern}
 use Rattle.rx_search.proofs.Overlaps.{told_by_stop, overlapping_stops, walk_met, walk_ended, goes_on_at, over_at}
-use Rattle.rx_all.specs.Matches.{query_at, told_at}
+use Rattle.rx_meaning.specs.AllMatches.{query_at, told_at}
 use Rattle.rx_scan.specs.Tokens.{longest, unless_ended}
 use Rattle.rx_scan.specs.Walks.{IsMet, IsLast, LastMet, Walked, kept_met, longest_met, told_later}
 use Rattle.rx_scan.specs.declared.longest.MetRow.{MetRow}
 use Rattle.rx_scan.proofs.LongestMatches.{longest_here, longest-nil, longest_append, longest_row}
-use Rattle.rx_all.proofs.PastOffsets.{AllPast, walk_past}
-use Rattle.lemmas_walks.proofs.Ranges.{or_none, or_assoc}
+use Rattle.rx_meaning.proofs.PastOffsets.{AllPast, walk_past}
+use Rattle.rx_lemmas.proofs.Ranges.{or_none, or_assoc}
 
 abbrev pub told : Option HalfMatch → HalfAnswer
 told m = Ok m

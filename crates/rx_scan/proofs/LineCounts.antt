@@ -6,7 +6,7 @@ use Rattle.rx_spec.proofs.Prelude.{length-take-le, cases_eq, get_or-take, get_or
 use Rattle.rx_spec.proofs.Prelude.{after}
 use Rattle.memchr.specs.Find.{IsFirstByte, is_byte as is}
 use Rattle.rx_spec.specs.Looks.{is_byte}
-use Rattle.lemmas_walks.proofs.Firsts.{by_test}
+use Rattle.rx_lemmas.proofs.Firsts.{by_test}
 use Rattle.rx_scan.specs.Tokens.{line_feeds, line_start}
 
 module _ (text : List ℕ) where

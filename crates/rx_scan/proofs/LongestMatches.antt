@@ -3,8 +3,8 @@ use Rattle.rx_spec.proofs.Prelude.{common_steps, ◌≡◌, ℕ, ◌<◌, ◌≤
 use Rattle.rx_spec.proofs.Prelude.{List, [], ◌∷◌, ◌++◌, refl, ap, sym, ◌∙◌, subst, arith, ⊎_elim, ◌⊎◌, inl, ltb-true}
 use Rattle.rx_spec.proofs.Prelude.{ltb-false, or_right, eqb-true, and_parts, All-nil, All-cons, nat_lt, Contains}
 use Rattle.rx_spec.proofs.Prelude.{option_or, HalfMatch, Item, pattern_items}
-use Rattle.lemmas_walks.proofs.Firsts.{by_test, Contains-here, Contains-there, Contains-cases, Contains-nil}
-use Rattle.rx_all.proofs.PastOffsets.{AllPast}
+use Rattle.rx_lemmas.proofs.Firsts.{by_test, Contains-here, Contains-there, Contains-cases, Contains-nil}
+use Rattle.rx_meaning.proofs.PastOffsets.{AllPast}
 use Rattle.rx_scan.specs.Tokens.{comes_before, first_of_two, longest}
 use Rattle.rx_scan.specs.Walks.{IsLowest}
 

@@ -1,7 +1,7 @@
 -- The lowest of some patterns, one more at a time.
 use Rattle.rx_spec.proofs.Prelude.{common_steps, ◌≡◌, ℕ, zero, suc, ◌+◌, ◌<◌, ◌≤◌, List, [], ◌∷◌, ◌++◌, length, take}
 use Rattle.rx_spec.proofs.Prelude.{refl, ap, sym, ◌∙◌, subst, arith, Contains-append_right, slice_index}
-use Rattle.lemmas_walks.proofs.Firsts.{Contains-here}
+use Rattle.rx_lemmas.proofs.Firsts.{Contains-here}
 use Rattle.rx_scan.specs.Walks.{IsLowest}
 
 one : (k : ℕ) → IsLowest (k ∷ []) k

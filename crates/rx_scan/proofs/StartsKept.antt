@@ -6,7 +6,7 @@ use Rattle.rx_spec.proofs.Prelude.{before, Anchored, start_error, start_row, Tab
 use Rattle.std.proofs.lemmas.Grind.{get_or_default_zero}
 use Rattle.rx_spec.specs.declared.Direction.{Direction}
 use Rattle.rx_search.specs.Starts.{IsId, IsStart}
-use Rattle.rx_all.specs.Matches.{query_at}
+use Rattle.rx_meaning.specs.AllMatches.{query_at}
 use Rattle.rx_scan.specs.Starts.{AreStarts}
 
 -- a place behind a byte

@@ -1,8 +1,9 @@
 -- The longest of what is told at a place is the longest match there, over a table that tells all matches.
 use Rattle.rx_spec.proofs.Prelude.{common_steps, ◌≡◌, ℕ, ◌<◌, ◌≤◌, Option, Some, None, Ok, List, refl, subst, arith}
-use Rattle.rx_spec.proofs.Prelude.{⊎_elim, cases_lt, Expression, HalfMatch, Ending, OverlappingMatches, Plan, Table}
-use Rattle.rx_all.specs.Matches.{IsPlaced, MatchesTo, told_at}
-use Rattle.rx_all.proofs.AllMatches.{all_are_told}
+use Rattle.rx_spec.proofs.Prelude.{⊎_elim, cases_lt, Expression, HalfMatch, Ending, OverlappingMatches, Table}
+use Rattle.rx_plan.specs.Plans.{Plan}
+use Rattle.rx_meaning.specs.AllMatches.{IsPlaced, MatchesTo, told_at}
+use Rattle.rx_meaning.proofs.AllMatches.{all_are_told}
 use Rattle.rx_scan.specs.Meanings.{IsLongestMatch}
 use Rattle.rx_scan.specs.Tokens.{longest, longest_of}
 use Rattle.rx_scan.proofs.LongestMatches.{NotAfter, longest_ends, longest_there, some_longest}

@@ -3,12 +3,12 @@ use Rattle.rx_spec.proofs.Prelude.{common_steps, ◌≡◌, ℕ, zero, suc, ◌-
 use Rattle.rx_spec.proofs.Prelude.{None, Ok, List, ◌∷◌, length, refl, ap, sym, ◌∙◌, subst, arith, ltb-true, ltb-false}
 use Rattle.rx_spec.proofs.Prelude.{nat_lt, is_some, HalfMatch, MatchError, HalfAnswer, Ending, OverlappingMatches}
 use Rattle.rx_spec.proofs.Prelude.{Table, AreBytes}
-use Rattle.lemmas_walks.proofs.Firsts.{by_test}
-use Rattle.rx_all.specs.Matches.{query_at, told_at}
+use Rattle.rx_lemmas.proofs.Firsts.{by_test}
+use Rattle.rx_meaning.specs.AllMatches.{query_at, told_at}
 use Rattle.rx_scan.specs.Tokens.{longest, longest_of, unless_ended, Tokens, no_more, token_at, then_tokens, tokens_from}
 use Rattle.rx_scan.specs.Tokens.{tokens_left, error_end, Scan, NextToken, Cover, IsMeant, IsMeantEnd}
 use Rattle.rx_spec.specs.declared.Direction.{Direction}
-use Rattle.lemmas_walks.proofs.OverlappingBounds.{overlapping_in_span}
+use Rattle.rx_lemmas.proofs.OverlappingBounds.{overlapping_in_span}
 use Rattle.rx_scan.proofs.TokenMeanings.{longest_is_match, none_matches}
 use Rattle.rx_scan.specs.States.{scan_of}
 use Rattle.rx_scan.specs.declared.token.ScanEnd.{ScanEnd}

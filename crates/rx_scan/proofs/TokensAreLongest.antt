@@ -1,10 +1,11 @@
 -- All tokens of a text are the longest matches from where they start, over a table that tells all matches.
 use Rattle.rx_spec.proofs.Prelude.{◌≡◌, ℕ, zero, suc, ◌-◌, ◌<◌, Some, Ok, List, length, All, refl, sym, subst, ltb-true}
 use Rattle.rx_spec.proofs.Prelude.{ltb-false, All-cons, All-nil, nat_lt, AreBytes, Expression, IsLoopSafe, HalfAnswer}
-use Rattle.rx_spec.proofs.Prelude.{Plan, Table}
-use Rattle.lemmas_walks.proofs.Firsts.{by_test}
-use Rattle.rx_all.specs.Builds.{all_build}
-use Rattle.rx_all.specs.Matches.{ServesAll, told_at}
+use Rattle.rx_spec.proofs.Prelude.{Table}
+use Rattle.rx_plan.specs.Plans.{Plan}
+use Rattle.rx_lemmas.proofs.Firsts.{by_test}
+use Rattle.rx_meaning.specs.AllBuilds.{all_build}
+use Rattle.rx_meaning.specs.AllMatches.{ServesAll, told_at}
 use Rattle.rx_scan.specs.Tokens.{IsLongestToken, Tokens, TokensAreLongest, longest_of, then_tokens, token_at}
 use Rattle.rx_scan.specs.Tokens.{tokens_from}
 use Rattle.rx_scan.specs.declared.token.Token.{Token}

@@ -2,7 +2,7 @@
 use Rattle.std.specs.Prelude.{ℕ, ◌<◌, ◌≤◌, List}
 use Rattle.rx_spec.specs.Expressions.{Expression}
 use Rattle.rx_spec.specs.Queries.{HalfMatch}
-use Rattle.rx_all.specs.Matches.{MatchesTo}
+use Rattle.rx_meaning.specs.AllMatches.{MatchesTo}
 
 -- the longest match that begins at p and isn't empty, and of those that are as long the one of the lowest pattern
 pub record IsLongestMatch (es : List Expression) (t : ℕ) (text : List ℕ) (p : ℕ) (m : HalfMatch) : Type 0 where

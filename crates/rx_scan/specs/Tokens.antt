@@ -11,9 +11,9 @@ use Rattle.rx_spec.specs.HalfSearches.{HalfAnswer}
 use Rattle.rx_spec.specs.Overlapping.{Item, Ending, OverlappingMatches}
 use Rattle.rx_spec.specs.Tables.{Table}
 use Rattle.rx_spec.specs.Expressions.{Expression, IsLoopSafe}
-use Rattle.rx_spec.specs.Plans.{Plan}
-use Rattle.rx_all.specs.Builds.{all_build}
-use Rattle.rx_all.specs.Matches.{MatchesTo, ServesAll, told_at}
+use Rattle.rx_plan.specs.Plans.{Plan}
+use Rattle.rx_meaning.specs.AllBuilds.{all_build}
+use Rattle.rx_meaning.specs.AllMatches.{MatchesTo, ServesAll, told_at}
 use Rattle.rx_scan.specs.Meanings.{IsLongestMatch}
 use Rattle.rx_scan.specs.declared.token.Token.{Token}
 use Rattle.rx_scan.specs.declared.token.ScanEnd.{ScanEnd}

@@ -7,7 +7,7 @@ ghost use Rattle.rx_spec.specs.Tables.{is_match};
 ghost use Rattle.rx_spec.specs.declared.Direction.TheVariants.{Forward};
 ghost use Rattle.rx_search.specs.Labels.{patterns_of};
 ghost use Rattle.rx_search.specs.Starts.{IsId, IsStart};
-ghost use Rattle.rx_all.specs.Matches.{query_at, told_at};
+ghost use Rattle.rx_meaning.specs.AllMatches.{query_at, told_at};
 ghost use Rattle.rx_scan.specs.Starts.{AreStarts};
 ghost use Rattle.rx_scan.specs.Tokens.{longest_of};
 ghost use Rattle.rx_scan.specs.Walks.{IsWalk, LastMet, IsLowest};

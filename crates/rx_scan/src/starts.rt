@@ -3,7 +3,7 @@
 ghost use Rattle.std.specs.Prelude.{◌≡◌, ◌≤◌, length};
 ghost use Rattle.rx_spec.specs.declared.Direction.TheVariants.{Forward};
 ghost use Rattle.rx_search.specs.Starts.{StartsSearch};
-ghost use Rattle.rx_all.specs.Matches.{query_at};
+ghost use Rattle.rx_meaning.specs.AllMatches.{query_at};
 ghost use Rattle.rx_scan.specs.Starts.{AreStarts};
 
 use rx_base::{Anchored, Input, MatchError, StateID};

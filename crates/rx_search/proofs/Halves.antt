@@ -7,10 +7,10 @@ use Rattle.rx_spec.proofs.Prelude.{next_offset, units_of, first_match, last_matc
 use Rattle.rx_spec.proofs.Prelude.{half_search, beside, ltb-false, Table, IsSound, is_match}
 use Rattle.rx_search.specs.Starts.{IsStart}
 use Rattle.rx_spec.specs.declared.Direction.{Direction}
-use Rattle.lemmas_walks.proofs.Firsts.{by_test}
-use Rattle.lemmas_tables.proofs.Tables.{match_alive}
-use Rattle.lemmas_walks.proofs.Words.{IsWord-head}
-use Rattle.lemmas_walks.proofs.Walking.{walk-nil, walk-cons}
+use Rattle.rx_lemmas.proofs.Firsts.{by_test}
+use Rattle.rx_lemmas.proofs.Tables.{match_alive}
+use Rattle.rx_lemmas.proofs.Words.{IsWord-head}
+use Rattle.rx_lemmas.proofs.Walking.{walk-nil, walk-cons}
 use Rattle.rx_search.specs.Labels.{patterns_of, IsFinal}
 use Rattle.rx_search.specs.Needles.{byte_ahead, Skips}
 use Rattle.rx_search.specs.Walks.{last_offset, previous_offset, units_left, units_after, at_stop_label, next_stop, Stop}
@@ -21,7 +21,7 @@ use Rattle.rx_search.proofs.Walks.{Place, stop-nil, stop-cons, units_left-more, 
 use Rattle.rx_search.proofs.Walks.{skip_keeps, rest_whole, next_place, skip_stops, bytes_on}
 use Rattle.rx_search.proofs.Counting.{quiet_goes_on, match_goes_on, skip_counts, counted_few}
 use Rattle.rx_search.proofs.Progress.{Standpoint}
-use Rattle.lemmas_walks.proofs.ReadUnits.{units_word}
+use Rattle.rx_lemmas.proofs.ReadUnits.{units_word}
 
 -- what a stop makes of a half search that has kept a match
 abbrev pub by_stop : Machine ℕ → Direction → Bool → Option HalfMatch → Stop → HalfAnswer

@@ -2,7 +2,7 @@
 use Rattle.rx_spec.proofs.Prelude.{arith, ◌≡◌, common_steps, IfOk, IfSome, Query, HalfAnswer, half_search, half_unsplit}
 use Rattle.rx_spec.proofs.Prelude.{Table}
 use Rattle.rx_spec.specs.declared.Direction.{Direction}
-use Rattle.lemmas_tables.proofs.ToldInSpan.{half_within, unsplit_within}
+use Rattle.rx_lemmas.proofs.ToldInSpan.{half_within, unsplit_within}
 use Rattle.rx_search.specs.Walks.{IsInSpan}
 
 abbrev LiesIn : Query → HalfAnswer → Type 0

@@ -7,9 +7,9 @@ use Rattle.rx_spec.proofs.Prelude.{with_items, at_item_label, overlapping_walk, 
 use Rattle.rx_spec.proofs.Prelude.{whole_overlapping_walk, Table, is_match}
 use Rattle.rx_spec.specs.Overlapping.{label_items}
 use Rattle.rx_spec.specs.declared.Direction.{Direction}
-use Rattle.lemmas_walks.proofs.Firsts.{by_test}
-use Rattle.lemmas_walks.proofs.Overlapping.{overlapping-nil, overlapping-cons, overlapping_walks}
-use Rattle.lemmas_walks.proofs.Words.{IsWord-head}
+use Rattle.rx_lemmas.proofs.Firsts.{by_test}
+use Rattle.rx_lemmas.proofs.Overlapping.{overlapping-nil, overlapping-cons, overlapping_walks}
+use Rattle.rx_lemmas.proofs.Words.{IsWord-head}
 use Rattle.rx_search.specs.Labels.{patterns_of, is_quit}
 use Rattle.rx_search.specs.Needles.{Skips}
 use Rattle.rx_search.specs.Starts.{IsStart}

@@ -3,7 +3,7 @@ use Rattle.rx_spec.proofs.Prelude.{common_steps, ◌≡◌, ℕ, suc, ◌-◌, �
 use Rattle.rx_spec.proofs.Prelude.{None, Ok, Err, length, refl, arith, IsTrue, ◌↔◌, Query, HalfMatch, MatchError, IsFit}
 use Rattle.rx_spec.proofs.Prelude.{is_anchored, HalfAnswer, half_search, Table, is_split, narrower, is_narrowest}
 use Rattle.rx_spec.proofs.Prelude.{unless_split, skip_splits, split_limit, skips_splits, half_unsplit}
-use Rattle.lemmas_tables.proofs.ToldInSpan.{half_within}
+use Rattle.rx_lemmas.proofs.ToldInSpan.{half_within}
 use Rattle.rx_spec.specs.declared.Direction.{Direction}
 use Rattle.rx_search.specs.SplitSearches.{unsplit_from}
 use Rattle.rx_search.specs.Walks.{IsInSpan}

@@ -5,10 +5,10 @@ use Rattle.rx_spec.proofs.Prelude.{eqb-true, false_from_ne_true, get_or_default,
 use Rattle.rx_spec.proofs.Prelude.{AreBytes, Query, Label, Machine, units_of, first_offset, next_offset, unit_offset}
 use Rattle.rx_spec.proofs.Prelude.{narrower, Table, is_match, leaving}
 use Rattle.rx_spec.specs.declared.Direction.{Direction}
-use Rattle.lemmas_tables.proofs.Filters.{filter_within, range_within}
-use Rattle.lemmas_walks.proofs.Firsts.{by_test, seen_if, Contains-here}
-use Rattle.lemmas_walks.proofs.ReadUnits.{units_of-more}
-use Rattle.lemmas_tables.proofs.Tables.{leaving_exactly}
+use Rattle.rx_lemmas.proofs.Filters.{filter_within, range_within}
+use Rattle.rx_lemmas.proofs.Firsts.{by_test, seen_if, Contains-here}
+use Rattle.rx_lemmas.proofs.ReadUnits.{units_of-more}
+use Rattle.rx_lemmas.proofs.Tables.{leaving_exactly}
 use Rattle.rx_search.specs.Labels.{is_quit}
 use Rattle.rx_search.specs.Needles.{byte_ahead, offset_after, is_read, Skips}
 use Rattle.rx_search.specs.Walks.{IsInSpan, last_offset, bytes_left, rest, units_left, units_after, unit_ahead, Stop}

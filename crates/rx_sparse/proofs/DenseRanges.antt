@@ -9,9 +9,9 @@ use Rattle.rx_spec.proofs.Prelude.{length-range_with_len, IsStrictlyIncreasing-f
 use Rattle.std.proofs.lemmas.List.Filters.{length-filter_both}
 use Rattle.std.proofs.lemmas.List.Folds.{length-prefix_len}
 use Rattle.std.proofs.lemmas.List.Sums.{prefix_len-le-length, prefix_len_passes}
-use Rattle.lemmas_walks.proofs.Firsts.{by_test, Contains-cases, Contains-here, Contains-there}
-use Rattle.lemmas_tables.proofs.Filters.{filter_keeps, filter_tested, filter_within, range_has, range_rises}
-use Rattle.lemmas_tables.proofs.Filters.{range_within}
+use Rattle.rx_lemmas.proofs.Firsts.{by_test, Contains-cases, Contains-here, Contains-there}
+use Rattle.rx_lemmas.proofs.Filters.{filter_keeps, filter_tested, filter_within, range_has, range_rises}
+use Rattle.rx_lemmas.proofs.Filters.{range_within}
 use Rattle.rx_dense.specs.States.{begins_range, is_live, range_end}
 use Rattle.rx_dense.proofs.Ranges.{range_end-after, range_end-begins, range_end-within}
 use Rattle.rx_sparse.specs.declared.ranges.ClassRange.{ClassRange}

@@ -4,7 +4,7 @@ use Rattle.rx_spec.proofs.Prelude.{length, take, drop, get_or, slice_index, refl
 use Rattle.rx_spec.proofs.Prelude.{Bool, true, false, cond, ⊎_elim, inl, inr, cases_eq, cases_lt, ne_eqb, drop-drop}
 use Rattle.rx_spec.proofs.Prelude.{drop_at, get_or-map-range_with_len, length-map-range_with_len, div-add-mod', max_id}
 use Rattle.rx_spec.proofs.Prelude.{id_of, row_of}
-use Rattle.lemmas_tables.proofs.Ids.{row_of-id_of}
+use Rattle.rx_lemmas.proofs.Ids.{row_of-id_of}
 use Rattle.rx_search.specs.Starts.{IsId}
 use Rattle.rx_dense.proofs.Rows.{id_at_row}
 use Rattle.rx_wire.specs.declared.order.Order.{Order}

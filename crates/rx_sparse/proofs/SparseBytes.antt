@@ -22,7 +22,7 @@ use Rattle.rx_sparse.specs.Parts.{AreParts, stored}
 use Rattle.rx_sparse.specs.Reading.{AreOffsets, HaveOffsets, offset_in, parts_of}
 use Rattle.rx_sparse.specs.Sparse.{AreSpecialRows, dense_rows, little_sparse_of, offsets_of, renamed_row, row_of_dense}
 use Rattle.rx_sparse.specs.Sparse.{IsTooLong, sparse_len, sparse_of, universal_offset}
-use Rattle.rx_build_error.specs.declared.BuildErrorKind.{BuildErrorKind}
+use Rattle.rx_expr.specs.declared.build_error.BuildErrorKind.{BuildErrorKind}
 use Rattle.rx_sparse.proofs.RowLengths.{row_len-patterns, rows_len-take}
 use Rattle.rx_sparse.proofs.RowPlaces.{fits_row, id_small, each_next}
 use Rattle.rx_sparse.proofs.RowTexts.{rows_again}

@@ -2,7 +2,7 @@
 use Rattle.rx_spec.proofs.Prelude.{common_steps, ◌≡◌, ℕ, ◌+◌, ◌-◌, ◌*◌, ◌<◌, ◌≤◌, true, List, [], ◌∷◌, length, map}
 use Rattle.rx_spec.proofs.Prelude.{slice_index, get_or, refl, ap, sym, ◌∙◌, subst, arith, IfSome, le-div, pow_pos}
 use Rattle.rx_spec.proofs.Prelude.{get_or-map, length-map, Contains-get_or, max_id, Label}
-use Rattle.lemmas_walks.proofs.Firsts.{by_test}
+use Rattle.rx_lemmas.proofs.Firsts.{by_test}
 use Rattle.rx_search.specs.Starts.{IsId}
 use Rattle.rx_dense.specs.Specials.{is_accel_id, is_match_id}
 use Rattle.rx_dense.specs.Layouts as dense

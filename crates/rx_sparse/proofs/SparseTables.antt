@@ -7,11 +7,11 @@ use Rattle.rx_spec.proofs.Prelude.{lt-ltb, le-ltb, ne_eqb, nat_tests, get_or-tak
 use Rattle.rx_spec.proofs.Prelude.{get_or-map-range_with_len, length-map-range_with_len, pow_pos, row_fits, id_of}
 use Rattle.rx_spec.proofs.Prelude.{row_of, IsWord, Label, run, Anchored, AreSame, IsTable, Table, row_after}
 use Rattle.std.proofs.lemmas.List.Kept.{AllPairs-from_increasing}
-use Rattle.lemmas_walks.proofs.Words.{IsWord-head, IsWord-tail, run-cons, run-nil}
+use Rattle.rx_lemmas.proofs.Words.{IsWord-head, IsWord-tail, run-cons, run-nil}
 use Rattle.rx_spec.specs.declared.Start.{Start}
-use Rattle.lemmas_walks.proofs.Firsts.{by_test}
-use Rattle.lemmas_tables.proofs.Ids.{row_of-id_of}
-use Rattle.lemmas_tables.proofs.Tables.{SameSettings-refl, sound_same}
+use Rattle.rx_lemmas.proofs.Firsts.{by_test}
+use Rattle.rx_lemmas.proofs.Ids.{row_of-id_of}
+use Rattle.rx_lemmas.proofs.Tables.{SameSettings-refl, sound_same}
 use Rattle.rx_base.specs.ByteClasses.{alphabet_len}
 use Rattle.rx_search.specs.Starts.{IsId}
 use Rattle.rx_dense.specs.Specials.{is_accel_id, is_in_range, is_match_id, is_quit_id, is_start_id}

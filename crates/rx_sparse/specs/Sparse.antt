@@ -5,7 +5,7 @@ use Rattle.std.specs.List.{range_with_len}
 use Rattle.rx_spec.specs.Causes.{max_id}
 use Rattle.rx_spec.specs.Ids.{id_of}
 use Rattle.rx_wire.specs.declared.order.Order.{Order}
-use Rattle.rx_build_error.specs.declared.BuildErrorKind.{BuildErrorKind}
+use Rattle.rx_expr.specs.declared.build_error.BuildErrorKind.{BuildErrorKind}
 use Rattle.rx_dense.specs.declared.special.Special.{Special}
 use Rattle.rx_dense.specs.Specials.{is_match_id}
 use Rattle.rx_dense.specs.Layouts.{Layout as Dense, IsRowId, needles_of_id, patterns_at, place_in_range, universal_row}

@@ -4,7 +4,7 @@ use Rattle.rx_spec.proofs.Prelude.{refl, ap, sym, ◌∙◌, arith, sum_by, All,
 use Rattle.rx_spec.proofs.Prelude.{All-contains, Build, IsReached, Node, dead, Exceeds, max_id, node_at, sparse_size}
 use Rattle.rx_spec.proofs.Prelude.{State}
 use Rattle.rx_spec.specs.Sizes.{patterns_size, sparse_row_size}
-use Rattle.lemmas_tables.proofs.Sizes.{sparse_grows}
+use Rattle.rx_lemmas.proofs.Sizes.{sparse_grows}
 use Rattle.rx_dense.specs.Layouts.{Layout, row_count}
 use Rattle.rx_sparse.specs.Sparse.{sparse_len}
 use Rattle.rx_sparse_build.specs.Measured.{IsMeasured}

@@ -2,9 +2,9 @@
 use Rattle.rx_spec.proofs.Prelude.{arith, ◌≡◌, ℕ, ◌<◌, ◌≤◌, Bool, true, false, if◌then◌else◌, List, inr, refl, ap}
 use Rattle.rx_spec.proofs.Prelude.{subst, common_steps, Result, Ok, Err, IfOk, IfErr, OnOk, Build, BuildFits, Exceeds}
 use Rattle.rx_spec.proofs.Prelude.{max_id, Expression, Nfa, sparse_bound, sparse_size, State}
-use Rattle.rx_build_error.specs.Refusals.{IsRefused, TableRefused}
-use Rattle.rx_build_error.specs.declared.BuildError.{BuildError}
-use Rattle.rx_build_error.specs.declared.BuildErrorKind.{BuildErrorKind}
+use Rattle.rx_expr.specs.Refusals.{IsRefused, TableRefused}
+use Rattle.rx_expr.specs.declared.build_error.BuildError.{BuildError}
+use Rattle.rx_expr.specs.declared.build_error.BuildErrorKind.{BuildErrorKind}
 use Rattle.rx_dense.specs.Layouts.{IsShaped, Layout}
 use Rattle.rx_expr.specs.Compiles.{Fits, wanted_nfa}
 use Rattle.rx_expr.specs.Settings as thompson

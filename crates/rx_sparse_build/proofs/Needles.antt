@@ -3,7 +3,7 @@ use Rattle.rx_spec.proofs.Prelude.{common_steps, ◌≡◌, ℕ, ◌<◌, ◌≤
 use Rattle.rx_spec.proofs.Prelude.{refl, ap, ap₂, sym, ◌∙◌, arith, if◌then◌else◌, nat_le, nat_lt, list_any, Build}
 use Rattle.rx_spec.proofs.Prelude.{IsPower, node_at, IsSound, Table, leaving}
 use Rattle.rx_spec.specs.Sizes.{needle_count}
-use Rattle.lemmas_walks.proofs.Firsts.{by_test}
+use Rattle.rx_lemmas.proofs.Firsts.{by_test}
 use Rattle.rx_sparse_build.proofs.PowerRows.{leaving_same, some_state}
 
 -- there are three at most

@@ -6,7 +6,7 @@ use Rattle.rx_spec.proofs.Prelude.{get_or-take, length-map, fill_by_all, get_or-
 use Rattle.rx_spec.proofs.Prelude.{next_node, class_by, ends_class, representatives, IsPower, node_at, runs_after}
 use Rattle.rx_spec.proofs.Prelude.{State}
 use Rattle.rx_spec.specs.Sizes.{range_count}
-use Rattle.lemmas_tables.proofs.ClassNumbers.{representative_below, representative_class, representatives_counted}
+use Rattle.rx_lemmas.proofs.ClassNumbers.{representative_below, representative_class, representatives_counted}
 use Rattle.rx_base.specs.ByteClasses.{alphabet_len}
 use Rattle.rx_dense.specs.Layouts.{AreRows, IsRowId, Layout, column, row_count, stride, table_of}
 use Rattle.rx_dense.specs.States.{begins_range, is_live, row_at}

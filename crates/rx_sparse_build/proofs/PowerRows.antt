@@ -6,7 +6,7 @@ use Rattle.rx_spec.proofs.Prelude.{get_or-map, All-get_or, Build, IsReached, Nod
 use Rattle.rx_spec.proofs.Prelude.{node_at, same_node, State, dead_state, IsTable, Table, leaving}
 use Rattle.std.proofs.lemmas.Bool.{cases_order}
 use Rattle.rx_spec.specs.Sizes.{leaving_bytes}
-use Rattle.lemmas_tables.proofs.Filters.{every_in_range, filter_alike}
+use Rattle.rx_lemmas.proofs.Filters.{every_in_range, filter_alike}
 use Rattle.rx_sparse_build.proofs.SameNodes.{same_numbers}
 
 module _ {t : Table} {b : Build} (p : IsPower t b) where

@@ -7,8 +7,8 @@ use Rattle.rx_spec.proofs.Prelude.{built_modes, dead, is_dead, is_dead_state, ne
 use Rattle.rx_spec.proofs.Prelude.{AreToldApart, IsReachedRow, label_after, IsWord, Label, State, dead_state, IsTable}
 use Rattle.rx_spec.proofs.Prelude.{Table}
 use Rattle.rx_spec.specs.Labels.{Gives}
-use Rattle.lemmas_walks.proofs.Firsts.{by_test}
-use Rattle.lemmas_walks.proofs.Words.{IsWord-append, IsWord-head, IsWord-tail, run-append, run-cons, run-nil}
+use Rattle.rx_lemmas.proofs.Firsts.{by_test}
+use Rattle.rx_lemmas.proofs.Words.{IsWord-append, IsWord-head, IsWord-tail, run-append, run-cons, run-nil}
 
 -- ---- dead and quit nodes
 

@@ -2,7 +2,7 @@
 use Rattle.rx_spec.proofs.Prelude.{◌≡◌, ℕ, zero, suc, ◌+◌, ◌-◌, ◌<◌, ◌≤◌, ◌==◌, ◌&&◌, ◌||◌, Bool, true, false, not}
 use Rattle.rx_spec.proofs.Prelude.{cond, List, ◌∷◌, length, map, filter, refl, ap, ap₂, sym, ◌∙◌, arith, if◌then◌else◌}
 use Rattle.rx_spec.proofs.Prelude.{range_with_len, ne_eqb, Node, dead, is_dead, runs_after, same_node}
-use Rattle.lemmas_walks.proofs.Firsts.{by_test}
+use Rattle.rx_lemmas.proofs.Firsts.{by_test}
 use Rattle.rx_sparse_build.proofs.SameNodes.{dead_apart}
 
 -- one where a test passes, and one where it doesn't

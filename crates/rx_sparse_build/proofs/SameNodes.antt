@@ -3,7 +3,7 @@ use Rattle.rx_spec.proofs.Prelude.{arith, ◌≡◌, ℕ, ◌==◌, Bool, true, 
 use Rattle.rx_spec.proofs.Prelude.{cases_eq, eq-eqb, false_from_ne_true, ne_eqb, not-true, or_parts, bytes_eq-Decides}
 use Rattle.rx_spec.proofs.Prelude.{Node, dead, is_dead, differ, same_node}
 use Rattle.std.proofs.lemmas.Bool.{or_from, not_from_false}
-use Rattle.lemmas_tables.proofs.Classes.{same_tests}
+use Rattle.rx_lemmas.proofs.Classes.{same_tests}
 
 -- ---- nodes that pass are one
 

@@ -2,8 +2,8 @@
 use Rattle.rx_spec.proofs.Prelude.{common_steps, ◌≡◌, true, false, sym, ap, ◌∙◌, subst, arith, Build, Nfa, IsPower}
 use Rattle.rx_spec.proofs.Prelude.{AreSame, IsTable, Table, row_after}
 use Rattle.rx_spec.specs.Labels.{IsLeastFor}
-use Rattle.lemmas_walks.proofs.SilentRows.{row_there}
-use Rattle.lemmas_tables.proofs.Tables.{SameSettings-sym, SameSettings-trans, table_same}
+use Rattle.rx_lemmas.proofs.SilentRows.{row_there}
+use Rattle.rx_lemmas.proofs.Tables.{SameSettings-sym, SameSettings-trans, table_same}
 use Rattle.rx_meaning.specs.Tables.{Serves}
 use Rattle.rx_dense.specs.Layouts as dense
 use Rattle.rx_build.specs.Built.{build_of}

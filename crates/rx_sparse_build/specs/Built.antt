@@ -4,7 +4,7 @@ use Rattle.std.specs.Prelude.{◌≡◌, ◌≤◌, List, length}
 use Rattle.rx_spec.specs.Causes.{BuildFits, BuildRefused, Limits, NfaRefused, max_id}
 use Rattle.rx_spec.specs.Expressions.{Expression}
 use Rattle.rx_spec.specs.Nfas.{Nfa}
-use Rattle.rx_spec.specs.Plans.{Cause}
+use Rattle.rx_spec.specs.Causes.{Cause}
 use Rattle.rx_spec.specs.declared.Form.{Form}
 use Rattle.rx_dense.specs.Layouts.{IsShaped, Layout as Dense}
 use Rattle.rx_expr.specs.Compiles.{Fits, wanted_nfa}

@@ -2,3 +2,5 @@
 pub mod Measured
 -- what is built by some settings, and why it isn't
 pub mod Built
+-- tables whose layouts can be read
+pub mod Finished

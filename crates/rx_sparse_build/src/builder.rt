@@ -4,7 +4,7 @@ ghost use Rattle.std.specs.Prelude.{◌≡◌, ◌<◌, ◌^◌, All, IfOk, IfEr
 ghost use Rattle.rx_spec.specs.Causes.{BuildFits};
 ghost use Rattle.rx_spec.specs.Expressions.{IsLoopSafe};
 ghost use Rattle.rx_spec.specs.Nfas.{Nfa};
-ghost use Rattle.rx_build_error.specs.Refusals.{IsRefused, TableRefused};
+ghost use Rattle.rx_expr.specs.Refusals.{IsRefused, TableRefused};
 ghost use Rattle.rx_build.specs.Builders.{Both, both_of};
 ghost use Rattle.rx_build.specs.Built.{IsBuilt, build_of, limits_of};
 ghost use Rattle.rx_build.specs.Settings.{Settled, settled};

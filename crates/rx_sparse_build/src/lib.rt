@@ -11,6 +11,7 @@
 #![tactic(auto)]
 
 mod builder;
+pub mod images;
 pub mod laws;
 pub mod row_lengths;
 mod sparse_build;

@@ -3,7 +3,7 @@
 ghost use Rattle.std.specs.Prelude.{◌≡◌, IfOk, IfErr, OnOk, All};
 ghost use Rattle.rx_spec.specs.Expressions.{IsLoopSafe};
 ghost use Rattle.rx_spec.specs.Nfas.{always_match, never_match};
-ghost use Rattle.rx_build_error.specs.Refusals.{IsRefused, TableRefused};
+ghost use Rattle.rx_expr.specs.Refusals.{IsRefused, TableRefused};
 ghost use Rattle.rx_expr.specs.Compiles.{wanted_nfa};
 ghost use Rattle.rx_expr.specs.Settings as thompson;
 ghost use Rattle.rx_build.specs.Settings.{nothing_asked, settled};

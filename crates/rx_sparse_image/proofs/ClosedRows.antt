@@ -3,7 +3,7 @@ use Rattle.rx_spec.proofs.Prelude.{common_steps, [], ◌≡◌, ℕ, ◌<◌, �
 use Rattle.rx_spec.proofs.Prelude.{◌∷◌, length, get_or, slice_index, sym, ap, subst, ◌∙◌, arith, IfSome, list_all}
 use Rattle.rx_spec.proofs.Prelude.{and_parts, eqb-true, leb-true, get_or_default, id_of, row_of}
 use Rattle.std.proofs.lemmas.List.Folds.{Any-from_list_any}
-use Rattle.lemmas_tables.proofs.Ids.{row_of-id_of}
+use Rattle.rx_lemmas.proofs.Ids.{row_of-id_of}
 use Rattle.rx_search.specs.Starts.{IsId}
 use Rattle.rx_image_parts.proofs.EachBelow.{each_at}
 use Rattle.rx_sparse.specs.Rows.{Row, next_ids, no_range, no_row, offsets_from}

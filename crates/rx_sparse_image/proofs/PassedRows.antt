@@ -11,7 +11,7 @@ use Rattle.rx_sparse.specs.Rows.{Row, no_row, offsets, offsets_from, row_in, row
 use Rattle.rx_sparse.specs.Rows.{rows_text}
 use Rattle.rx_sparse.proofs.RowTexts.{length-rows}
 use Rattle.rx_sparse.proofs.RowPlaces.{length-rows_in}
-use Rattle.rx_sparse_image.specs.declared.walk.Bounds.{Bounds}
+use Rattle.rx_sparse_image.specs.declared.rows.Bounds.{Bounds}
 use Rattle.rx_sparse_image.specs.RowSets.{begins_at}
 use Rattle.rx_sparse_image.specs.Tested.{IsTestedRow}
 use Rattle.rx_sparse_image.specs.Walks.{row_at, rows_at, rows_from}

@@ -6,7 +6,7 @@ use Rattle.rx_wire.specs.declared.order.Order.{Order}
 use Rattle.rx_wire.specs.Kinds.{Kind, ◌>>=◌}
 use Rattle.rx_wire.specs.Fields.{bytes_at, number_at}
 use Rattle.rx_sparse.specs.Rows.{word_at, words_in}
-use Rattle.rx_sparse_image.specs.declared.walk.Bounds.{Bounds}
+use Rattle.rx_sparse_image.specs.declared.rows.Bounds.{Bounds}
 use Rattle.rx_sparse_image.specs.Walks.{after_patterns, each_passes, next_ids_at, tested_count, tested_id}
 use Rattle.rx_sparse_image.specs.Walks.{tested_pattern}
 

@@ -8,7 +8,7 @@ use Rattle.rx_sparse.specs.Parts.{AreParts as ArePartsOf}
 use Rattle.rx_sparse.specs.Rows.{Row, rows_in}
 use Rattle.rx_sparse.proofs.RowPlaces.{length-rows_in}
 use Rattle.rx_sparse_image.specs.declared.read.Image.{Image}
-use Rattle.rx_sparse_image.specs.declared.walk.Bounds.{Bounds}
+use Rattle.rx_sparse_image.specs.declared.rows.Bounds.{Bounds}
 use Rattle.rx_sparse_image.specs.Closing.{is_closed}
 use Rattle.rx_sparse_image.specs.Images.{Parts, bounds_of, layout_of, parts_at, reads}
 use Rattle.rx_sparse_image.specs.Reading.{IsReadImage, image_layout, seen_image}

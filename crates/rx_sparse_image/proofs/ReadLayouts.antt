@@ -4,7 +4,7 @@ use Rattle.rx_wire.specs.declared.order.Order.{Order}
 use Rattle.rx_sparse.specs.Rows.{Row, rows_in}
 use Rattle.rx_sparse.proofs.RowPlaces.{length-rows_in}
 use Rattle.rx_sparse_image.specs.declared.read.Image.{Image}
-use Rattle.rx_sparse_image.specs.declared.walk.Bounds.{Bounds}
+use Rattle.rx_sparse_image.specs.declared.rows.Bounds.{Bounds}
 use Rattle.rx_sparse_image.specs.Images.{bounds_of}
 use Rattle.rx_sparse_image.specs.Reading.{IsReadImage, image_layout, seen_image}
 use Rattle.rx_sparse_image.specs.Tested.{AreTestedRows, IsRead}

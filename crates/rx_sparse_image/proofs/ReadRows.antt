@@ -11,7 +11,7 @@ use Rattle.rx_wire.specs.Fields.{bytes_at, number, number_at}
 use Rattle.rx_dense.specs.Specials.{is_accel_id}
 use Rattle.rx_sparse.specs.Rows.{Row, behind_ends, count_in, ends_in, is_match_in, is_some_list, next_ids_in}
 use Rattle.rx_sparse.specs.Rows.{patterns_in, patterns_len, rest_in, row_in, word_at, words_in}
-use Rattle.rx_sparse_image.specs.declared.walk.Bounds.{Bounds}
+use Rattle.rx_sparse_image.specs.declared.rows.Bounds.{Bounds}
 use Rattle.rx_sparse_image.specs.Walks.{after_patterns, after_patterns_if, are_ends, each_passes, ends_at, has_count}
 use Rattle.rx_sparse_image.specs.Walks.{head_at, is_head, may_be_special, may_have, needles_at, next_ids_at, row_at}
 use Rattle.rx_sparse_image.specs.Walks.{tested, tested_count, tested_id, tested_next, tested_pattern}

@@ -1,6 +1,6 @@
 -- The rows of a sparse table and their ids.
 use Rattle.rx_spec.proofs.Prelude.{◌≡◌, ℕ, ◌<◌, refl, sym, arith, id_of, row_of}
-use Rattle.lemmas_tables.proofs.Ids.{row_of-id_of}
+use Rattle.rx_lemmas.proofs.Ids.{row_of-id_of}
 use Rattle.rx_search.specs.Starts.{IsId}
 use Rattle.rx_dense.specs.Specials.{is_match_id, is_quit_id}
 use Rattle.rx_dense.proofs.Rows.{id_at_row}

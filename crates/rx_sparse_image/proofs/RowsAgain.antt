@@ -17,7 +17,7 @@ use Rattle.rx_sparse.specs.Rows.{rows_len, rows_text, word_at, words_text}
 use Rattle.rx_sparse.proofs.DecodedRows.{range_is}
 use Rattle.rx_sparse.proofs.RowTexts.{ends_is, length-ends, length-next_ids, length-row, length-rows, counted}
 use Rattle.rx_sparse.proofs.RowTexts.{row_again, told}
-use Rattle.rx_sparse_image.specs.declared.walk.Bounds.{Bounds}
+use Rattle.rx_sparse_image.specs.declared.rows.Bounds.{Bounds}
 use Rattle.rx_sparse_image.specs.Tested.{IsTestedRow}
 use Rattle.rx_sparse_image.specs.Walks.{after_patterns_if, ends_at, head_at, is_match_head, is_range_at, needles_at}
 use Rattle.rx_sparse_image.specs.Walks.{next_ids_at, range_count, row_at, rows_from, tested, tested_next}

@@ -16,7 +16,7 @@ use Rattle.rx_sparse.specs.Rows.{Row, behind_ends, count_in, ends_in, ends_text,
 use Rattle.rx_sparse.specs.Rows.{next_ids, next_ids_in, no_range, patterns_in, patterns_len, patterns_text, range_in}
 use Rattle.rx_sparse.specs.Rows.{rest_in, row_in, row_len, row_text, word_at, words_in, words_text}
 use Rattle.rx_sparse.proofs.RowTexts.{length-row}
-use Rattle.rx_sparse_image.specs.declared.walk.Bounds.{Bounds}
+use Rattle.rx_sparse_image.specs.declared.rows.Bounds.{Bounds}
 use Rattle.rx_sparse_image.specs.Tested.{IsTestedRow}
 use Rattle.rx_sparse_image.specs.Walks.{is_range_at, may_have, row_at}
 use Rattle.rx_sparse_image.proofs.DecodedBytes.{ends_are, field16_is, field32_is, nexts_are, number16_below, words_are}

@@ -20,7 +20,7 @@ use Rattle.rx_sparse.specs.Rows.{Row, rows_len, rows_text}
 use Rattle.rx_sparse.specs.Layouts.{IsShaped, Layout}
 use Rattle.rx_sparse.proofs.RowPlaces.{id_small}
 use Rattle.rx_sparse.proofs.RowTexts.{length-rows}
-use Rattle.rx_sparse_image.specs.declared.walk.Bounds.{Bounds}
+use Rattle.rx_sparse_image.specs.declared.rows.Bounds.{Bounds}
 use Rattle.rx_sparse_image.specs.RowBytes.{RowBytes, row_bytes_at, settings_at}
 use Rattle.rx_sparse_image.specs.Walks.{rows_at}
 use Rattle.rx_sparse_image.specs.Closing.{is_closed}

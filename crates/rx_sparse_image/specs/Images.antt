@@ -15,7 +15,7 @@ use Rattle.rx_image_parts.specs.SpecialIds.{special_at, special_text}
 use Rattle.rx_sparse.specs.Layouts.{Layout, Stored}
 use Rattle.rx_sparse.specs.Rows.{Row, rows_len, rows_text}
 use Rattle.rx_sparse_image.specs.RowBytes.{RowBytes, row_bytes_at}
-use Rattle.rx_sparse_image.specs.declared.walk.Bounds.{Bounds}
+use Rattle.rx_sparse_image.specs.declared.rows.Bounds.{Bounds}
 use Rattle.rx_sparse_image.specs.Walks.{rows_at}
 use Rattle.rx_sparse_image.specs.Closing.{is_closed}
 

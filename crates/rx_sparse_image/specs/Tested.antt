@@ -9,7 +9,7 @@ use Rattle.rx_image_parts.specs.StartTables.{IsReadStartTable}
 use Rattle.rx_image_parts.specs.SpecialIds.{are_special}
 use Rattle.rx_sparse.specs.Layouts.{Layout}
 use Rattle.rx_sparse.specs.Rows.{Row, is_some_list, next_ids, no_range, no_row, offsets, row_len, rows_len}
-use Rattle.rx_sparse_image.specs.declared.walk.Bounds.{Bounds}
+use Rattle.rx_sparse_image.specs.declared.rows.Bounds.{Bounds}
 use Rattle.rx_sparse_image.specs.Walks.{may_be_special, may_have}
 use Rattle.rx_sparse_image.specs.Closing.{is_closed}
 use Rattle.rx_sparse_image.specs.Images.{start_table_of}

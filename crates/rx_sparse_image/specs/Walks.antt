@@ -8,7 +8,7 @@ use Rattle.rx_wire.specs.Kinds.{Kind, ◌>>=◌}
 use Rattle.rx_wire.specs.Fields.{bytes_at, number_at}
 use Rattle.rx_dense.specs.Specials.{is_accel_id, is_match_id}
 use Rattle.rx_image_parts.specs.SpecialIds.{is_named}
-use Rattle.rx_sparse_image.specs.declared.walk.Bounds.{Bounds}
+use Rattle.rx_sparse_image.specs.declared.rows.Bounds.{Bounds}
 use Rattle.rx_sparse.specs.Rows.{Row, row_in, word_at, words_in}
 
 -- the number, if a test holds

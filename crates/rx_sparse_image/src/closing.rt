@@ -190,7 +190,7 @@ fn starts_stand(image: &Image<'_>, rows: &RowSet) -> bool
 }
 
 /// Whether all tests of the parts together succeed, and the number of rows is the one that the image states.
-pub(crate) fn is_closed(image: &Image<'_>, rows: &RowSet) -> bool
+pub fn is_closed(image: &Image<'_>, rows: &RowSet) -> bool
     requires rows { AreWholeRows image.now.parts.order image.now.parts.state_len image.now.rows.now }
     requires marks { Marks rows.now (ids_of (image_layout image.now)) }
     ensures { result ≡ is_closed image.now.parts.state_len (image_layout image.now) }

@@ -10,8 +10,8 @@ ghost use Rattle.rx_sparse_image.specs.Images.{reads, text};
 ghost use Rattle.rx_sparse_image.specs.Tested.{IsWhole};
 
 /// An image of a layout that can be read (`IsWhole`) is read as that layout with the image's length, in either byte
-/// order and whatever bytes follow. Every table that [`SparseRead::from_bytes`](crate::SparseRead::from_bytes) returns
-/// has such a layout.
+/// order and whatever bytes follow. Every table that `SparseRead::from_bytes` of `rx_image` returns has
+/// such a layout.
 pub fn images_are_read_again()
     ensures { (order : Order) (l : Layout) → IsWhole l → (rest : List ℕ)
         → reads (text order l ++ rest) ≡ Ok (record { layout = l; order = order }, length (text order l)) }

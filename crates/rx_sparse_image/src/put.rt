@@ -133,7 +133,7 @@ fn put_start_table<E: Endian, T: ByteStore>(dfa: &DFA<T>, dst: &mut [u8], at: us
 }
 
 /// The length of an image in bytes.
-pub(crate) fn image_len<T: ByteStore>(dfa: &DFA<T>) -> usize
+pub fn image_len<T: ByteStore>(dfa: &DFA<T>) -> usize
     ensures value { result ≡ image_len dfa.now.layout }
     ensures text { (order : Order) → length (text order dfa.now.layout) ≡ result }
     ensures shaped { IsShaped dfa.now.layout }
@@ -142,11 +142,7 @@ pub(crate) fn image_len<T: ByteStore>(dfa: &DFA<T>) -> usize
 }
 
 /// Writes an image at the front of `dst` and returns its length.
-pub(crate) fn put_image<E: Endian, T: ByteStore>(
-    order: Order,
-    dfa: &DFA<T>,
-    dst: &mut [u8],
-) -> usize
+pub fn put_image<E: Endian, T: ByteStore>(order: Order, dfa: &DFA<T>, dst: &mut [u8]) -> usize
     requires order { order ≡ E.order }
     requires shaped { IsShaped dfa.now.layout }
     requires fits { image_len dfa.now.layout ≤ length dst.old }

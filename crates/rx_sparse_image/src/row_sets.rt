@@ -7,7 +7,7 @@ use std::alloc::{AllocError, Global};
 
 /// The places at which rows begin.
 #[derive(Drop)]
-pub(crate) struct RowSet {
+pub struct RowSet {
     /// For each place, whether a row begins there.
     begins: Vec<bool>,
 }

@@ -70,7 +70,7 @@ pub use Rattle.rx_spec.specs.Builds.{AreReached, Build, IsReached, Node, Quit, R
 pub use Rattle.rx_spec.specs.Builds.{built_modes, dead, is_dead, is_dead_state, next_node, nfa_start, node_after}
 pub use Rattle.rx_spec.specs.Builds.{node_label, power, start_node}
 pub use Rattle.rx_spec.specs.Bytes.{AreBytes, all_bytes, between, contains, eoi, only, unit_of}
-pub use Rattle.rx_spec.specs.Causes.{BuildCause, BuildFits, Exceeds, IsSupported, IsUnsupported, id_count, max_id}
+pub use Rattle.rx_spec.specs.Causes.{BuildCause, BuildFits, Cause, Exceeds, IsSupported, IsUnsupported, id_count, max_id}
 pub use Rattle.rx_spec.specs.Classes.{column_by, ends_class, parts, representatives}
 unfoldable pub use Rattle.rx_spec.specs.Classes.{class_by, least_exponent}
 pub use Rattle.rx_spec.specs.Contexts.{Facts, both, either_of, facts_of, facts_read, holds_read, no_facts, row_reads}
@@ -100,7 +100,6 @@ unfoldable pub use Rattle.rx_spec.specs.Nfas.{nfa_of, patterns_from, start_of_al
 pub use Rattle.rx_spec.specs.Overlapping.{Ending, Item, OverlappingMatches, at_item_label, none_left, overlapping}
 pub use Rattle.rx_spec.specs.Overlapping.{pattern_items, remaining, whole_overlapping_walk, with_items}
 unfoldable pub use Rattle.rx_spec.specs.Overlapping.{overlapping_walk}
-pub use Rattle.rx_spec.specs.Plans.{Cause, Plan, outcome, plan_build, plan_nfa, unless_error}
 pub use Rattle.rx_spec.specs.Power.{IsPower, node_at}
 pub use Rattle.rx_spec.specs.Queries.{Anchored, HalfMatch, IsFit, LiesIn, Match, MatchError, Query, in_order}
 pub use Rattle.rx_spec.specs.Queries.{is_anchored, is_done, reading}

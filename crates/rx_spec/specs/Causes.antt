@@ -127,3 +127,8 @@ pub record BuildFits (l : Limits) (b : Build) : Type 0 where
   pub patterns : HasTooManyPatterns b → ⊥
   pub table : (limit : ℕ) → l.dfa_size_limit ≡ Some limit → IsTooLarge l b limit → ⊥
   pub construction : (limit : ℕ) → l.determinize_size_limit ≡ Some limit → IsTooCostly b limit → ⊥
+
+-- why a list of expressions is built into no table
+pub data Cause : Type 0 where
+  NFA : (cause : NfaCause) → Cause
+  DFA : (cause : BuildCause) → Cause

@@ -15,6 +15,7 @@ pub mod Nfas
 pub mod Contexts
 pub mod Classes
 pub mod States
+pub mod Closures
 pub mod Shallow
 -- machines, what is built, tables
 pub mod Machines
@@ -30,7 +31,6 @@ pub mod Overlapping
 pub mod Splits
 pub mod Joining
 pub mod Iterating
--- plans
+-- sizes, and why a build is refused
 pub mod Sizes
 pub mod Causes
-pub mod Plans

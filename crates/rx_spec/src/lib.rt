@@ -6,6 +6,10 @@
 //! states and their steps, tables, searches over tables. No function of this crate has a loop.
 #![tactic(auto)]
 
+mod steps;
+
+pub use steps::{Steps, Tally};
+
 /// An assertion: a test of the two bytes beside a place of the haystack. It reads no byte.
 ///
 /// The names and meanings are those of the Rust crate `regex-automata`. The Unicode word assertions

@@ -11,7 +11,7 @@ use Rattle.rx_stepper.proofs.Prelude.{closure_unfolds, every-append, fresh_itsel
 use Rattle.std.specs.List.{AllByRecursion as Every}
 use Rattle.rx_spec.specs.declared.Direction.{Direction}
 use Rattle.rx_spec.specs.declared.Look.{Look}
-use Rattle.lemmas_walks.proofs.Facts.{Cover, kept_cover, kept_after, kept_before}
+use Rattle.rx_lemmas.proofs.Facts.{Cover, kept_cover, kept_after, kept_before}
 
 -- ---- tests that agree on the assertions that rows have
 

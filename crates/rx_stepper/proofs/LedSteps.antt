@@ -7,7 +7,7 @@ use Rattle.rx_spec.proofs.Prelude.{to_first_match, cut, pattern_of}
 use Rattle.rx_stepper.proofs.Prelude.{MatchKind, by_test, closed_rows, goes_on, led, matches_of, without}
 use Rattle.rx_stepper.proofs.Members.{In, in_cases, in_nil, was}
 use Rattle.rx_stepper.proofs.Without.{without_nil, without_old, without_new, firsts_joined, led_gives}
-use Rattle.lemmas_walks.proofs.FirstMatch.{first_here, first_later, pattern_of-none}
+use Rattle.rx_lemmas.proofs.FirstMatch.{first_here, first_later, pattern_of-none}
 
 -- what is closed in both lists
 pub closed_led : (rows : List Row) (pass : Passing) (own lead : List ℕ)

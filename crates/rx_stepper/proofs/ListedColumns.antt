@@ -3,7 +3,7 @@ use Rattle.rx_spec.proofs.Prelude.{common_steps, ◌≡◌, ℕ, ◌<◌, List, 
 use Rattle.rx_spec.proofs.Prelude.{slice_index, filter, All, range_with_len, contains, All-filter}
 use Rattle.rx_stepper.proofs.Prelude.{AreListed, Grown, IsListed, ListedSet, read_by}
 use Rattle.rx_stepper.proofs.ReadColumns.{range_few}
-use Rattle.lemmas_walks.proofs.QuitSets.{contains-empty}
+use Rattle.rx_lemmas.proofs.ByteSets.{contains-empty}
 
 pub read_few : (set : ℕ) (units : List ℕ) → All (λ column. column < length units) (read_by set units)
 read_few set units =

@@ -2,7 +2,7 @@
 use Rattle.rx_spec.proofs.Prelude.{◌≡◌, ℕ, ◌==◌, ◌⊎◌, Bool, false, List, [], ◌∷◌, ◌++◌, sym, ⊎_elim, or_left, eq-eqb}
 use Rattle.rx_spec.proofs.Prelude.{false_from_ne_true, Contains, list_any}
 use Rattle.rx_stepper.proofs.Prelude.{Apart, seen_if, seen_true}
-pub use Rattle.rx_powerset.proofs.Search.{In, in_cases, in_here, in_left, in_nil, in_right, in_split, in_there}
+pub use Rattle.rx_lemmas.proofs.GraphSearch.{In, in_cases, in_here, in_left, in_nil, in_right, in_split, in_there}
 
 abbrev pub was : List ℕ → ℕ → Bool
 was seen x = list_any (λ y. x == y) seen

@@ -1,17 +1,17 @@
 -- What proofs take from other modules, in one module.
-pub use Rattle.lemmas_walks.proofs.Every.{every-append, every-weaker, flat_map-append_of, flat_map-flat_map}
-pub use Rattle.lemmas_walks.proofs.Firsts.{Apart, Apart-fresh, Contains-here, Contains-nil, Contains-there, by_test}
-pub use Rattle.lemmas_walks.proofs.Firsts.{fresh_alike, fresh_append, fresh_itself, fresh_keeps, fresh_new, fresh_nil}
-pub use Rattle.lemmas_walks.proofs.Firsts.{fresh_old, fresh_within, seen_if, seen_true}
+pub use Rattle.rx_lemmas.proofs.Every.{every-append, every-weaker, flat_map-append_of, flat_map-flat_map}
+pub use Rattle.rx_lemmas.proofs.Firsts.{Apart, Apart-fresh, Contains-here, Contains-nil, Contains-there, by_test}
+pub use Rattle.rx_lemmas.proofs.Firsts.{fresh_alike, fresh_append, fresh_itself, fresh_keeps, fresh_new, fresh_nil}
+pub use Rattle.rx_lemmas.proofs.Firsts.{fresh_old, fresh_within, seen_if, seen_true}
 pub use Rattle.rx_base.specs.FactBits.{bit, bits_of, facts_with}
 pub use Rattle.rx_base.specs.Unit.{unit_number}
 pub use Rattle.rx_expr.specs.Nfa.{meaning, row_of}
 pub use Rattle.rx_expr.specs.declared.thompson.nfa.NFA.{NFA}
-pub use Rattle.rx_powerset.proofs.Closures.{closure_unfolds, graph_of, own_either, weight_of}
-pub use Rattle.rx_powerset.proofs.FirstMatch.{IsUncut, cut_here, cut_nowhere, uncut_more}
-pub use Rattle.rx_powerset.proofs.StackSearch.{met_falls, passed_falls, popped}
-pub use Rattle.rx_powerset.proofs.StateBounds.{few_firsts, few_more, first_few, pattern_few}
-pub use Rattle.rx_powerset.specs.Closures.{branches_by, closed_rows, own_by}
+pub use Rattle.rx_lemmas.proofs.RowClosures.{closure_unfolds, graph_of, own_either, weight_of}
+pub use Rattle.rx_lemmas.proofs.Uncut.{IsUncut, cut_here, cut_nowhere, uncut_more}
+pub use Rattle.rx_lemmas.proofs.StackSearch.{met_falls, passed_falls, popped}
+pub use Rattle.rx_lemmas.proofs.StateBounds.{few_firsts, few_more, first_few, pattern_few}
+pub use Rattle.rx_spec.specs.Closures.{branches_by, closed_rows, own_by}
 pub use Rattle.rx_spec.specs.declared.MatchKind.{MatchKind}
 pub use Rattle.rx_spec.specs.declared.Unit.{Unit}
 pub use Rattle.rx_stepper.specs.Columns.{AreGroups, AreSpans, AreUsed, IsGroup, Reads, asked_of, columns_of, led_by}

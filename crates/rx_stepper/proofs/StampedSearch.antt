@@ -11,8 +11,8 @@ use Rattle.rx_stepper.proofs.Prelude.{closure_unfolds, every-append, flat_map-ap
 use Rattle.rx_stepper.proofs.Prelude.{fresh_keeps, fresh_new, fresh_nil, fresh_old, fresh_within, graph_of, in_turn}
 use Rattle.rx_stepper.proofs.Prelude.{is_end, is_met, popped, row_of_thin, seen_if, seen_true, unmet}
 use Rattle.std.specs.List.{AllByRecursion as Every}
-use Rattle.rx_powerset.proofs.Search.{Graph, In, Listed, Notes, Searching, in_cases, in_nil, search_passes}
-use Rattle.rx_powerset.proofs.Search.{search_turns, search_ends}
+use Rattle.rx_lemmas.proofs.GraphSearch.{Graph, In, Listed, Notes, Searching, in_cases, in_nil, search_passes}
+use Rattle.rx_lemmas.proofs.GraphSearch.{search_turns, search_ends}
 use Rattle.rx_stepper.proofs.Members.{in_here, in_left, in_right, in_split, not_in, was}
 
 -- ---- room: no more rows can be new than there are

@@ -11,7 +11,7 @@ use Rattle.rx_stepper.proofs.Prelude.{patterns_of, rows_by, rows_in, spelled, ta
 use Rattle.rx_stepper.proofs.Members.{was}
 use Rattle.rx_stepper.proofs.StepLaws.{Leads, dead_steps, going_alone, leads_alone, leads_led}
 use Rattle.rx_stepper.proofs.Without.{without_nil, without_new, without_old}
-use Rattle.lemmas_walks.proofs.ReadUnits.{All-got}
+use Rattle.rx_lemmas.proofs.ReadUnits.{All-got}
 
 pub no_leads : (t : Table) (lead_in : LeadIn) (leads : List LeadSteps) → IsLeadIn t.nfa lead_in → length leads ≡ 32
     → All (λ l. length l.steps.targets.items ≡ length (units_of t.classes)) leads

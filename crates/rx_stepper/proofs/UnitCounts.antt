@@ -5,7 +5,7 @@ use Rattle.rx_spec.proofs.Prelude.{representatives}
 use Rattle.rx_stepper.proofs.Prelude.{units_of}
 use Rattle.rx_base.specs.ByteClasses.{AreClasses, ends_of, alphabet_len}
 use Rattle.rx_base.proofs.Classes.{class_by-le}
-use Rattle.lemmas_tables.proofs.ClassNumbers.{class_suc, class_zero, representatives_counted}
+use Rattle.rx_lemmas.proofs.ClassNumbers.{class_suc, class_zero, representatives_counted}
 
 risen : (a b : ℕ) → a ≤ b → b ≤ a + 1 → a + (if not (a == b) then 1 else 0) ≡ b
 risen a b low high = grind (arith, common_steps)

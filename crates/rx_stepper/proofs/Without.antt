@@ -7,7 +7,7 @@ use Rattle.rx_stepper.proofs.Prelude.{Apart, Contains-here, Contains-nil, Contai
 use Rattle.rx_stepper.proofs.Prelude.{flat_map-append_of, fresh_alike, fresh_append, fresh_keeps, fresh_new, fresh_nil}
 use Rattle.rx_stepper.proofs.Prelude.{fresh_old, fresh_within, led, seen_if, seen_true, without}
 use Rattle.rx_stepper.proofs.Members.{In, in_cases, in_nil, was, in_here, in_there, in_left, in_right, not_in}
-use Rattle.rx_powerset.proofs.Search.{fresh_skips}
+use Rattle.rx_lemmas.proofs.GraphSearch.{fresh_skips}
 
 -- ---- its equations
 

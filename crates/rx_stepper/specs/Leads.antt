@@ -5,7 +5,7 @@ use Rattle.std.specs.List.{list_any}
 use Rattle.std.specs.Str.{bytes_eq}
 use Rattle.rx_spec.specs.Nfas.{Nfa, is_always_start_anchored}
 use Rattle.rx_spec.specs.States.{Standing}
-use Rattle.rx_powerset.specs.Closures.{closed_rows}
+use Rattle.rx_spec.specs.Closures.{closed_rows}
 
 -- The rows of the unanchored start. Where every search is anchored there is no lead-in.
 abbrev pub lead_of : Nfa → List ℕ

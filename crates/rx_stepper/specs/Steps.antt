@@ -7,7 +7,7 @@ use Rattle.rx_spec.specs.Causes.{id_count}
 use Rattle.rx_spec.specs.Nfas.{Nfa}
 use Rattle.rx_spec.specs.Contexts.{Facts, holds_read, no_facts}
 use Rattle.rx_spec.specs.Rows.{Row}
-use Rattle.rx_powerset.specs.Closures.{closed_rows}
+use Rattle.rx_spec.specs.Closures.{closed_rows}
 use Rattle.rx_spec.specs.States.{State, Standing, Tested, row_at, decided_rows, cut, pattern_of, target, is_match_row}
 use Rattle.rx_spec.specs.States.{is_look_row}
 use Rattle.rx_spec.specs.declared.MatchKind.{MatchKind}

@@ -4,7 +4,7 @@ use Rattle.rx_spec.specs.Rows.{Row}
 use Rattle.rx_spec.specs.Contexts.{holds_read}
 use Rattle.rx_spec.specs.States as states
 use Rattle.rx_spec.specs.States.{Standing, Tested, row_at, is_look_row, is_match_row, pattern_of}
-use Rattle.rx_powerset.specs.Closures.{own_by, branches_by}
+use Rattle.rx_spec.specs.Closures.{own_by, branches_by}
 use Rattle.rx_stepper.specs.declared.thin_row.ThinRow.{ThinRow}
 use Rattle.rx_stepper.specs.declared.closures.Passing.{Passing}
 

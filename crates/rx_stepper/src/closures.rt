@@ -6,7 +6,7 @@ ghost use Rattle.std.specs.List.{flat_map, list_any, AllByRecursion as Every};
 ghost use Rattle.rx_spec.specs.Causes.{id_count};
 ghost use Rattle.rx_spec.specs.Contexts.{holds_read};
 ghost use Rattle.rx_spec.specs.States.{closure, fresh, row_at, is_look_row};
-ghost use Rattle.rx_powerset.specs.Closures.{own_by, branches_by, closed_rows};
+ghost use Rattle.rx_spec.specs.Closures.{own_by, branches_by, closed_rows};
 ghost use Rattle.rx_expr.specs.Nfa.{meaning};
 ghost use Rattle.rx_stepper.specs.Searches.{IsSearched, ReachesItself, in_turn};
 ghost use Rattle.rx_stepper.specs.Stamps.{is_met};

@@ -10,7 +10,7 @@ ghost use Rattle.rx_spec.specs.Causes.{id_count, max_id};
 ghost use Rattle.rx_spec.specs.States.{Standing, firsts, is_look_row, row_at};
 ghost use Rattle.rx_base.specs.FactBits.{bits_of, facts_with};
 ghost use Rattle.rx_expr.specs.Nfa.{meaning};
-ghost use Rattle.rx_powerset.specs.Closures.{closed_rows};
+ghost use Rattle.rx_spec.specs.Closures.{closed_rows};
 ghost use Rattle.rx_stepper.specs.Leads.{lead_of, led, rows_by, split_by, without, written, written_as, IsLeast};
 ghost use Rattle.rx_stepper.specs.Places.{no_place, ArePlaces, AreMetTo};
 ghost use Rattle.rx_stepper.specs.Stamps.{is_met};

@@ -3,7 +3,7 @@
 ghost use Rattle.std.specs.Prelude.{◌≡◌, ◌+◌, ◌<◌, ◌≤◌, ◌++◌, length, reverse, vec_capacity, IfOk};
 ghost use Rattle.rx_spec.specs.Causes.{id_count};
 ghost use Rattle.rx_spec.specs.States.{is_look_row};
-ghost use Rattle.rx_powerset.specs.Closures.{own_by, branches_by};
+ghost use Rattle.rx_spec.specs.Closures.{own_by, branches_by};
 ghost use Rattle.rx_expr.specs.Nfa.{meaning, row_of};
 ghost use Rattle.rx_stepper.specs.ThinRows.{row_of_thin, AreThin, IsThin};
 

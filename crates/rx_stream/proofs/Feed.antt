@@ -2,7 +2,7 @@
 use Rattle.rx_spec.proofs.Prelude.{common_steps, ◌≡◌, ℕ, ◌+◌, ◌-◌, ◌≤◌, true, Some, None, Option, List, [], ◌∷◌, ◌++◌}
 use Rattle.rx_spec.proofs.Prelude.{length, drop, refl, ap, sym, ◌∙◌, subst, arith, drop-length, append-nil}
 use Rattle.rx_spec.proofs.Prelude.{append_assoc, slice_index, eoi, AreBytes, row_of, IsWord, HalfMatch, Table}
-use Rattle.lemmas_walks.proofs.Words.{IsWord-nil}
+use Rattle.rx_lemmas.proofs.Words.{IsWord-nil}
 use Rattle.rx_search.specs.Labels.{patterns_of}
 use Rattle.rx_search.proofs.Standing.{Standing}
 use Rattle.rx_stream.specs.Remaining.{events, told_over, pending, units_to, now_at}
@@ -13,7 +13,7 @@ use Rattle.rx_stream.specs.declared.event.StreamEvent.{StreamEvent}
 use Rattle.rx_stream.specs.declared.place.Place.{Place}
 use Rattle.rx_stream.specs.declared.place.Stage.{Stage}
 use Rattle.rx_stream.proofs.Remaining.{IsRead, reads_match, reads_quit, reads_all}
-use Rattle.lemmas_walks.proofs.ReadUnits.{bytes_word}
+use Rattle.rx_lemmas.proofs.ReadUnits.{bytes_word}
 
 pub ended_word : (bytes : List ℕ) → AreBytes bytes → IsWord (bytes ++ (eoi ∷ []))
 ended_word bytes are = grind (arith, common_steps)

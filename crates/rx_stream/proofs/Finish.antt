@@ -3,9 +3,9 @@ use Rattle.rx_spec.proofs.Prelude.{arith, ◌≡◌, ℕ, ◌+◌, true, false, 
 use Rattle.rx_spec.proofs.Prelude.{subst, common_steps, eoi, row_of, HalfMatch, Ending, none_left, pattern_items}
 use Rattle.rx_spec.proofs.Prelude.{with_items, Table, is_match}
 use Rattle.rx_spec.specs.declared.Direction.{Direction}
-use Rattle.lemmas_walks.proofs.Firsts.{by_test}
-use Rattle.lemmas_walks.proofs.Overlapping.{overlapping-nil}
-use Rattle.lemmas_tables.proofs.Tables.{match_alive}
+use Rattle.rx_lemmas.proofs.Firsts.{by_test}
+use Rattle.rx_lemmas.proofs.Overlapping.{overlapping-nil}
+use Rattle.rx_lemmas.proofs.Tables.{match_alive}
 use Rattle.rx_search.specs.Labels.{patterns_of}
 use Rattle.rx_search.proofs.Standing.{Standing, match_label, plain_label, no_patterns}
 use Rattle.rx_search.proofs.Walks.{Turn, eoi_no_quit}

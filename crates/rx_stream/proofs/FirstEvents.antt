@@ -4,12 +4,12 @@ use Rattle.rx_spec.proofs.Prelude.{◌∙◌, common_steps, Label, IsWord, at_la
 use Rattle.rx_spec.proofs.Prelude.{none_left, at_item_label, overlapping_walk, Table, IsTable}
 use Rattle.rx_spec.specs.declared.Direction.{Direction}
 use Rattle.rx_spec.specs.declared.Start.{Start}
-use Rattle.lemmas_walks.proofs.Firsts.{by_test}
-use Rattle.lemmas_walks.proofs.HalfSearches.{half_walks}
-use Rattle.lemmas_walks.proofs.Walking.{walk-nil, walk-cons}
-use Rattle.lemmas_walks.proofs.Overlapping.{overlapping-nil, overlapping-cons, overlapping_walks}
-use Rattle.lemmas_walks.proofs.Words.{IsWord-head, IsWord-tail}
-use Rattle.lemmas_walks.proofs.ReadUnits.{units_word}
+use Rattle.rx_lemmas.proofs.Firsts.{by_test}
+use Rattle.rx_lemmas.proofs.HalfSearches.{half_walks}
+use Rattle.rx_lemmas.proofs.Walking.{walk-nil, walk-cons}
+use Rattle.rx_lemmas.proofs.Overlapping.{overlapping-nil, overlapping-cons, overlapping_walks}
+use Rattle.rx_lemmas.proofs.Words.{IsWord-head, IsWord-tail}
+use Rattle.rx_lemmas.proofs.ReadUnits.{units_word}
 use Rattle.rx_stream.specs.Remaining.{events, whole}
 use Rattle.rx_stream.specs.Cuttings.{first_answer, FirstIsEarliest}
 use Rattle.rx_stream.proofs.New.{not_done}

@@ -4,9 +4,9 @@ use Rattle.rx_spec.proofs.Prelude.{sym, ◌∙◌, subst, common_steps, append-n
 use Rattle.rx_spec.proofs.Prelude.{OverlappingMatches, none_left, at_item_label, pattern_items, with_items, Table}
 use Rattle.rx_spec.specs.Overlapping.{label_items}
 use Rattle.rx_spec.specs.declared.Direction.{Direction}
-use Rattle.lemmas_walks.proofs.Overlapping.{overlapping-nil, overlapping-cons, overlapping_silent}
-use Rattle.lemmas_walks.proofs.SilentRows.{zero_is_silent}
-use Rattle.lemmas_walks.proofs.Words.{IsWord-nil}
+use Rattle.rx_lemmas.proofs.Overlapping.{overlapping-nil, overlapping-cons, overlapping_silent}
+use Rattle.rx_lemmas.proofs.SilentRows.{zero_is_silent}
+use Rattle.rx_lemmas.proofs.Words.{IsWord-nil}
 use Rattle.rx_stream.specs.Remaining.{events, told_over, pending, units_to, now_at}
 use Rattle.rx_stream.specs.Cuttings.{NowIsFront, DeadTellsNothing}
 use Rattle.rx_stream.specs.Pieces.{walked}

@@ -2,7 +2,7 @@
 use Rattle.rx_spec.proofs.Prelude.{common_steps, ◌≡◌, ℕ, ◌-◌, false, List, [], ◌∷◌, ◌++◌, refl, ap, sym, ◌∙◌, arith}
 use Rattle.rx_spec.proofs.Prelude.{slice_get_past, eoi, row_of, Anchored, is_done, units_of, Table}
 use Rattle.rx_spec.specs.declared.Direction.{Direction}
-use Rattle.lemmas_walks.proofs.Overlapping.{overlapping_walks}
+use Rattle.rx_lemmas.proofs.Overlapping.{overlapping_walks}
 use Rattle.rx_search.specs.Labels.{label_patterns}
 use Rattle.rx_search.specs.Starts.{IsStart}
 use Rattle.rx_search.proofs.Standing.{Standing}

@@ -5,9 +5,9 @@ use Rattle.rx_spec.proofs.Prelude.{arith, length-drop, drop-length, false_from_n
 use Rattle.rx_spec.proofs.Prelude.{row_of, Label, IsWord, OverlappingMatches, Ending, none_left, at_item_label, Table}
 use Rattle.rx_spec.proofs.Prelude.{is_match}
 use Rattle.rx_spec.specs.declared.Direction.{Direction}
-use Rattle.lemmas_walks.proofs.Overlapping.{overlapping-cons, overlapping_silent}
-use Rattle.lemmas_walks.proofs.SilentRows.{zero_is_silent}
-use Rattle.lemmas_tables.proofs.Tables.{match_alive}
+use Rattle.rx_lemmas.proofs.Overlapping.{overlapping-cons, overlapping_silent}
+use Rattle.rx_lemmas.proofs.SilentRows.{zero_is_silent}
+use Rattle.rx_lemmas.proofs.Tables.{match_alive}
 use Rattle.rx_search.specs.Labels.{is_quit}
 use Rattle.rx_search.specs.Needles.{is_nil, is_needle, IsFirstNeedle, is_read}
 use Rattle.rx_search.proofs.Standing.{Standing, match_label, quit_label, plain_label}

@@ -4,9 +4,9 @@ use Rattle.rx_spec.proofs.Prelude.{drop, ap, sym, ◌∙◌, arith, All-drop, sl
 use Rattle.rx_spec.proofs.Prelude.{HalfMatch, Ending, none_left, pattern_items, with_items, Table, is_match}
 use Rattle.std.proofs.Math.Seq.{drop-nil}
 use Rattle.rx_spec.specs.declared.Direction.{Direction}
-use Rattle.lemmas_walks.proofs.Firsts.{by_test}
-use Rattle.lemmas_walks.proofs.Overlapping.{overlapping-nil}
-use Rattle.lemmas_walks.proofs.Words.{IsWord-append}
+use Rattle.rx_lemmas.proofs.Firsts.{by_test}
+use Rattle.rx_lemmas.proofs.Overlapping.{overlapping-nil}
+use Rattle.rx_lemmas.proofs.Words.{IsWord-append}
 use Rattle.rx_search.specs.Labels.{patterns_of, label_patterns}
 use Rattle.rx_search.proofs.Standing.{Standing, quit_label}
 use Rattle.rx_search.proofs.Halves.{some_pattern}
@@ -17,7 +17,7 @@ use Rattle.rx_stream.specs.Pieces.{walked, IsQuietWalk, MeetsMatch, MeetsQuit}
 use Rattle.rx_stream.specs.declared.event.Fed.{Fed}
 use Rattle.rx_stream.specs.declared.event.StreamEvent.{StreamEvent}
 use Rattle.rx_stream.specs.declared.place.Place.{Place}
-use Rattle.lemmas_walks.proofs.ReadUnits.{bytes_word}
+use Rattle.rx_lemmas.proofs.ReadUnits.{bytes_word}
 
 -- ---- patterns that are left
 

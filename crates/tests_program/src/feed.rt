@@ -3,11 +3,10 @@
 
 use rx_base::{Anchored, MatchKind, MemSink, MemSource, PatternID};
 use rx_build::dense::{Builder, Config};
-use rx_dense_image::DenseWrite;
+use rx_image::{DenseWrite, SparseWrite};
 use rx_expr::thompson;
 use rx_feed::{Fault, feed};
 use rx_sparse_build::BuildSparse;
-use rx_sparse_image::SparseWrite;
 use rx_spec::Form;
 use std::alloc::Global;
 use std::process::Abort;

@@ -5,10 +5,10 @@ mod texts;
 
 use rx_build::dense::DenseBuild;
 use rx_dense::{Accel, Accels, OwnedDFA};
-use rx_dense_image::{AccelImage, AccelsImage, DenseRead, DenseWrite};
+use rx_dense_image::{AccelImage, AccelsImage};
+use rx_image::{DenseRead, DenseWrite, SparseRead, SparseWrite};
 use rx_sparse::DFA;
 use rx_sparse_build::SparseBuild;
-use rx_sparse_image::{SparseRead, SparseWrite};
 use rx_wire::{DeserializeError, LE};
 use std::alloc::Global;
 use std::test::Fail;

@@ -6,7 +6,7 @@ ghost use Rattle.std.specs.Prelude.{◌≡◌, ℕ, ◌+◌, ◌*◌, ◌/◌, �
 ghost use Rattle.rx_refine.specs.Moves.{AreMoves};
 
 use rx_refine::*;
-use rx_steps::Tally;
+use rx_spec::Tally;
 use std::alloc::{AllocError, Global};
 use std::process::Abort;
 use std::test::Fail;

@@ -6,7 +6,7 @@ ghost use Rattle.rx_spec.specs.Causes.{BuildFits};
 ghost use Rattle.rx_spec.specs.Expressions.{IsLoopSafe};
 ghost use Rattle.rx_dense.specs.Layouts.{Layout};
 ghost use Rattle.rx_order.specs.RowOrder.{AreJoined, IsInOrder, IsPlain};
-ghost use Rattle.rx_build_error.specs.Refusals.{IsRefused, TableRefused};
+ghost use Rattle.rx_expr.specs.Refusals.{IsRefused, TableRefused};
 ghost use Rattle.rx_expr.specs.Compiles.{wanted_nfa};
 ghost use Rattle.rx_expr.specs.Nfa.{meaning};
 ghost use Rattle.rx_build.specs.Making.{IsMade, determinized, minimized, marked_as};

@@ -6,7 +6,7 @@ ghost use Rattle.rx_spec.specs.Ids.{row_of};
 ghost use Rattle.rx_spec.specs.Tables.{is_match};
 ghost use Rattle.rx_spec.specs.Starts.{mode_error, start_context, start_error};
 ghost use Rattle.rx_base.specs.Search.{mode_of};
-ghost use Rattle.lemmas_tables.proofs.Ids.{dense_are_ids};
+ghost use Rattle.rx_lemmas.proofs.Ids.{dense_are_ids};
 ghost use Rattle.rx_search.specs.Labels.{patterns_of};
 ghost use Rattle.rx_search.specs.Starts.{IsId, refusal_of};
 ghost use Rattle.rx_dense.specs.Layouts.{AreLists, ids_of, row_count, settings_of, table_of, universal_id};

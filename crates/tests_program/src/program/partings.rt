@@ -3,7 +3,7 @@
 use crate::program::{answer, image, whole};
 use rx_base::{Anchored, Unit};
 use rx_dense::OwnedDFA;
-use rx_dense_image::DenseRead;
+use rx_image::DenseRead;
 use rx_equal::{Parting, Place, UnitList, check_parting};
 use std::alloc::{AllocError, Global};
 use std::test::Fail;

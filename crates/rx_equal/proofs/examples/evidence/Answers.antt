@@ -1,5 +1,5 @@
 use Rattle.rx_spec.proofs.Prelude.{ℕ, zero, suc, ◌≡◌, List, [], ◌∷◌, refl, ap, sym, ◌∙◌, arith, Contains, Label}
-use Rattle.lemmas_walks.proofs.Firsts.{Contains-nil}
+use Rattle.rx_lemmas.proofs.Firsts.{Contains-nil}
 use Rattle.rx_equal.specs.Evidence.{RowPair}
 use Rattle.rx_equal.specs.Examples.{at_edge}
 use Rattle.rx_equal.proofs.FourRows.{three_closed, three_pairs}

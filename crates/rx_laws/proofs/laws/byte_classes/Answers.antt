@@ -1,6 +1,6 @@
 use Rattle.rx_spec.proofs.Prelude.{◌≡◌, suc, ◌+◌, false, inl, inr, refl, ap, ◌∙◌, arith, class_by, ends_class}
-use Rattle.lemmas_tables.proofs.ClassNumbers.{class_zero, class_stays, class_moves, none_ends, one_class, class_of_all}
-use Rattle.lemmas_walks.proofs.Firsts.{by_test}
+use Rattle.rx_lemmas.proofs.ClassNumbers.{class_zero, class_stays, class_moves, none_ends, one_class, class_of_all}
+use Rattle.rx_lemmas.proofs.Firsts.{by_test}
 use Rattle.rx_laws.proofs.laws.byte_classes.Goals as goal
 
 pub returns : goal.returns

@@ -1,5 +1,5 @@
 use Rattle.rx_spec.proofs.Prelude.{rules}
-use Rattle.lemmas_tables.proofs.Classes.{class_leads, column_leads}
+use Rattle.rx_lemmas.proofs.Classes.{class_leads, column_leads}
 use Rattle.rx_laws.proofs.laws.classes_lead.Goals as goal
 
 pub returns : goal.returns

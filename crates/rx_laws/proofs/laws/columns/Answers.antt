@@ -1,5 +1,5 @@
 use Rattle.rx_spec.proofs.Prelude.{arith}
-use Rattle.lemmas_tables.proofs.ClassNumbers.{column_below, column_used}
+use Rattle.rx_lemmas.proofs.ClassNumbers.{column_below, column_used}
 use Rattle.rx_laws.proofs.laws.columns.Goals as goal
 
 pub returns : goal.returns

@@ -1,5 +1,5 @@
 use Rattle.rx_spec.proofs.Prelude.{rules}
-use Rattle.lemmas_walks.proofs.Facts.{facts_decide, kept_last, kept_cover, start_knows}
+use Rattle.rx_lemmas.proofs.Facts.{facts_decide, kept_last, kept_cover, start_knows}
 use Rattle.rx_laws.proofs.StatesLaws.{kept_read_both}
 use Rattle.rx_laws.proofs.laws.contexts_decide.Goals as goal
 

@@ -1,4 +1,4 @@
-use Rattle.lemmas_walks.proofs.Reaches.{reaches_sound, reaches_complete}
+use Rattle.rx_lemmas.proofs.Reaches.{reaches_sound, reaches_complete}
 use Rattle.rx_laws.proofs.laws.ends_are_reached.Goals as goal
 
 pub returns : goal.returns

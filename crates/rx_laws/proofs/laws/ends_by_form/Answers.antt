@@ -1,5 +1,5 @@
 use Rattle.rx_spec.proofs.Prelude.{refl}
-use Rattle.lemmas_walks.proofs.Ends.{ends_empty, ends_class, ends_assert, ends_concat, ends_alternate}
+use Rattle.rx_lemmas.proofs.Ends.{ends_empty, ends_class, ends_assert, ends_concat, ends_alternate}
 use Rattle.rx_laws.proofs.laws.ends_by_form.Goals as goal
 
 pub returns : goal.returns

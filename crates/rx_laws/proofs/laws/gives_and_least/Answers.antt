@@ -1,4 +1,4 @@
-use Rattle.lemmas_tables.proofs.Labels.{IsLeast-unique}
+use Rattle.rx_lemmas.proofs.Labels.{IsLeast-unique}
 use Rattle.rx_laws.proofs.laws.gives_and_least.Goals as goal
 
 pub returns : goal.returns

@@ -1,6 +1,6 @@
 use Rattle.rx_spec.proofs.Prelude.{arith, common_steps, Query, Answer}
 use Rattle.rx_laws.specs.SearchesLaws as laws
-use Rattle.lemmas_tables.proofs.Iterating.{IsOrderly, matches_uncut, matches_again, matches_lie, matches_rise}
+use Rattle.rx_lemmas.proofs.Iterating.{IsOrderly, matches_uncut, matches_again, matches_lie, matches_rise}
 use Rattle.rx_laws.proofs.laws.matches_in_order.Goals as goal
 
 orderly : (search : Query → Answer) → laws.IsOrderly search → IsOrderly search

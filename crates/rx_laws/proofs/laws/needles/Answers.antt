@@ -1,5 +1,5 @@
 use Rattle.rx_spec.proofs.Prelude.{arith, common_steps}
-use Rattle.lemmas_tables.proofs.Tables.{leaving_exactly, leaving_rises, between_needles}
+use Rattle.rx_lemmas.proofs.Tables.{leaving_exactly, leaving_rises, between_needles}
 use Rattle.rx_laws.proofs.laws.needles.Goals as goal
 
 pub returns : goal.returns

@@ -1,5 +1,5 @@
 use Rattle.rx_spec.proofs.Prelude.{arith, common_steps}
-use Rattle.lemmas_walks.proofs.Overlapping.{overlapping_match, remaining-cons, remaining-nil}
+use Rattle.rx_lemmas.proofs.Overlapping.{overlapping_match, remaining-cons, remaining-nil}
 use Rattle.rx_laws.proofs.laws.remaining_matches.Goals as goal
 
 pub returns : goal.returns

@@ -1,6 +1,6 @@
 use Rattle.rx_spec.proofs.Prelude.{arith}
-use Rattle.lemmas_tables.proofs.ClassNumbers.{representatives_rise, representatives_counted, representative_class}
-use Rattle.lemmas_tables.proofs.ClassNumbers.{representative_least}
+use Rattle.rx_lemmas.proofs.ClassNumbers.{representatives_rise, representatives_counted, representative_class}
+use Rattle.rx_lemmas.proofs.ClassNumbers.{representative_least}
 use Rattle.rx_laws.proofs.laws.representatives_of_classes.Goals as goal
 
 pub returns : goal.returns

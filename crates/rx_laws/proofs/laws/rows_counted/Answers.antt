@@ -1,5 +1,5 @@
 use Rattle.rx_spec.proofs.Prelude.{rules, rows_count}
-use Rattle.lemmas_walks.proofs.Rows.{rows_counted}
+use Rattle.rx_lemmas.proofs.Rows.{rows_counted}
 use Rattle.rx_laws.proofs.laws.rows_counted.Goals as goal
 
 pub returns : goal.returns

@@ -1,6 +1,6 @@
 use Rattle.rx_spec.proofs.Prelude.{rules}
-use Rattle.lemmas_tables.proofs.Tables.{AreSame-refl, AreSame-sym, AreSame-trans, table_same, sound_same, half_same}
-use Rattle.lemmas_tables.proofs.Tables.{overlapping_same}
+use Rattle.rx_lemmas.proofs.Tables.{AreSame-refl, AreSame-sym, AreSame-trans, table_same, sound_same, half_same}
+use Rattle.rx_lemmas.proofs.Tables.{overlapping_same}
 use Rattle.rx_laws.proofs.laws.same_tables.Goals as goal
 
 pub returns : goal.returns

@@ -1,5 +1,5 @@
 use Rattle.rx_spec.proofs.Prelude.{rules}
-use Rattle.lemmas_tables.proofs.Splits.{splits_uncut, splits_again, unsplit_again}
+use Rattle.rx_lemmas.proofs.Splits.{splits_uncut, splits_again, unsplit_again}
 use Rattle.rx_laws.proofs.laws.splits_passed_over.Goals as goal
 
 pub returns : goal.returns

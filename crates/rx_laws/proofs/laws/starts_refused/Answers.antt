@@ -1,6 +1,6 @@
 use Rattle.rx_spec.proofs.Prelude.{◌≡◌, ℕ, false, Option, Some, None, refl, contains, Anchored, Settings, mode_error}
 use Rattle.rx_spec.proofs.Prelude.{start_error}
-use Rattle.lemmas_tables.proofs.Splits.{half_when_done}
+use Rattle.rx_lemmas.proofs.Splits.{half_when_done}
 use Rattle.rx_laws.proofs.laws.starts_refused.Goals as goal
 
 by_mode : (s : Settings) (beside : Option ℕ) (mode : Anchored)

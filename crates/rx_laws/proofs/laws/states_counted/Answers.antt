@@ -1,8 +1,8 @@
 use Rattle.rx_spec.proofs.Prelude.{List, length, State, determinizer_size, label_total, table_size, last_id, max_id}
 use Rattle.rx_spec.specs.Sizes.{start_entries, build_stride}
 use Rattle.rx_spec.specs.Causes.{sparse_length}
-use Rattle.lemmas_tables.proofs.Sizes.{reached_count, exceeds_exactly, determinizer_grows, labels_grow, table_grows}
-use Rattle.lemmas_tables.proofs.Sizes.{ids_grow, length_grows}
+use Rattle.rx_lemmas.proofs.Sizes.{reached_count, exceeds_exactly, determinizer_grows, labels_grow, table_grows}
+use Rattle.rx_lemmas.proofs.Sizes.{ids_grow, length_grows}
 use Rattle.rx_laws.proofs.laws.states_counted.Goals as goal
 
 pub returns : goal.returns

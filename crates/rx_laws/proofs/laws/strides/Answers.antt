@@ -1,6 +1,6 @@
 use Rattle.rx_spec.proofs.Prelude.{arith}
 use Rattle.rx_spec.specs.Classes.{alphabet_by}
-use Rattle.lemmas_tables.proofs.ClassNumbers.{alphabet_within, stride_holds, stride_least, stride_within}
+use Rattle.rx_lemmas.proofs.ClassNumbers.{alphabet_within, stride_holds, stride_least, stride_within}
 use Rattle.rx_laws.proofs.laws.strides.Goals as goal
 
 pub returns : goal.returns

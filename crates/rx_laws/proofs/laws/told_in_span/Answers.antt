@@ -1,6 +1,6 @@
 use Rattle.rx_spec.proofs.Prelude.{arith, common_steps}
-use Rattle.lemmas_tables.proofs.ToldInSpan.{half_within, unsplit_within}
-use Rattle.lemmas_tables.proofs.Joining.{join_orderly}
+use Rattle.rx_lemmas.proofs.ToldInSpan.{half_within, unsplit_within}
+use Rattle.rx_lemmas.proofs.Joining.{join_orderly}
 use Rattle.rx_laws.proofs.laws.told_in_span.Goals as goal
 
 pub returns : goal.returns

@@ -1,6 +1,7 @@
 use Rattle.rx_spec.proofs.Prelude.{common_steps, ◌≡◌, ◌++◌, ◌∷◌, [], ◌∙◌, List, length, map, Ok, Err, ap, sym}
 use Rattle.rx_spec.proofs.Prelude.{append-nil, eqb-true, arith, eqb-false, flat_map_more, nil_from_length, IfOk-weaker}
-use Rattle.rx_spec.proofs.Prelude.{string_bytes, iterate, outcome}
+use Rattle.rx_spec.proofs.Prelude.{string_bytes, iterate}
+use Rattle.rx_plan.specs.Plans.{outcome}
 use Rattle.std.specs.String.{string_len}
 use Rattle.rx_base.specs.Input.{query_of}
 use Rattle.rx_main.specs.Lines.{error_reply, match_line}

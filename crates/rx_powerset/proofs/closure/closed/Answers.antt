@@ -2,10 +2,11 @@ use Rattle.std.proofs.Common.{arith}
 use Rattle.std.proofs.lemmas.Grind.{common_steps}
 use Rattle.rx_spec.proofs.Prelude.{ℕ, flat_map, id_count, row_at, closure}
 use Rattle.rx_expr.specs.Nfa.{meaning}
-use Rattle.rx_powerset.specs.Closures.{passing_of}
-use Rattle.rx_powerset.proofs.Closures.{nfa_graph, own_either}
-use Rattle.rx_powerset.proofs.StateBounds.{few_firsts}
-use Rattle.rx_powerset.proofs.StackSearch.{popped, passed, met, passed_falls, met_falls, stopped}
+use Rattle.rx_powerset.specs.Passing.{passing_of}
+use Rattle.rx_lemmas.proofs.RowClosures.{own_either}
+use Rattle.rx_powerset.proofs.NfaGraph.{nfa_graph}
+use Rattle.rx_lemmas.proofs.StateBounds.{few_firsts}
+use Rattle.rx_lemmas.proofs.StackSearch.{popped, passed, met, passed_falls, met_falls, stopped}
 use Rattle.rx_powerset.proofs.closure.closed.Goals as goal
 
 -- ---- a row that is new

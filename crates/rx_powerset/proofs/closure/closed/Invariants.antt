@@ -1,10 +1,12 @@
 use Rattle.rx_spec.proofs.Prelude.{◌<◌, reverse, sum_by, id_count}
 use Rattle.std.specs.List.{AllByRecursion as Every}
 use Rattle.rx_expr.specs.Nfa.{meaning}
-use Rattle.rx_powerset.specs.Closures.{passing_of, closed_rows}
-use Rattle.rx_powerset.proofs.Closures.{nfa_graph, weight_of}
-use Rattle.rx_powerset.proofs.Search.{Searching}
-use Rattle.rx_powerset.proofs.StackSearch.{has}
+use Rattle.rx_spec.specs.Closures.{closed_rows}
+use Rattle.rx_powerset.specs.Passing.{passing_of}
+use Rattle.rx_lemmas.proofs.RowClosures.{weight_of}
+use Rattle.rx_powerset.proofs.NfaGraph.{nfa_graph}
+use Rattle.rx_lemmas.proofs.GraphSearch.{Searching}
+use Rattle.rx_lemmas.proofs.StackSearch.{has}
 use Rattle.rx_powerset.proofs.closure.closed.Given as goal
 
 abbrev pub invariant-search : goal.invariant-search

@@ -1,5 +1,5 @@
 use Rattle.rx_spec.proofs.Prelude.{common_steps, arith}
-use Rattle.rx_powerset.proofs.FirstMatch.{uncut_more, cut_here, cut_nowhere}
+use Rattle.rx_lemmas.proofs.Uncut.{uncut_more, cut_here, cut_nowhere}
 use Rattle.rx_powerset.proofs.state.to_first_match.Goals as goal
 
 pub returns-then-is_match : goal.returns-then-is_match

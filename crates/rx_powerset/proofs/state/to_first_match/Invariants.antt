@@ -1,5 +1,5 @@
 use Rattle.rx_expr.specs.Nfa.{meaning}
-use Rattle.rx_powerset.proofs.FirstMatch.{IsUncut}
+use Rattle.rx_lemmas.proofs.Uncut.{IsUncut}
 use Rattle.rx_powerset.proofs.state.to_first_match.Given as goal
 
 abbrev pub invariant-loop-i : goal.invariant-loop-i

@@ -2,7 +2,7 @@ use Rattle.rx_spec.proofs.Prelude.{◌+◌, sym, ◌∙◌, subst, arith, slice_
 use Rattle.rx_spec.specs.declared.Direction.{Direction}
 use Rattle.rx_search.proofs.Cursors.{held_by, held_row}
 use Rattle.rx_search.proofs.Walks.{Turn, Step, ordinary}
-use Rattle.rx_all.specs.Matches.{query_at}
+use Rattle.rx_meaning.specs.AllMatches.{query_at}
 use Rattle.rx_scan.specs.Walks.{Walked, kept_met}
 use Rattle.rx_scan.specs.declared.longest.MetRow.{MetRow}
 use Rattle.rx_scan.proofs.LastRows.{place, quiet_on, met_on, walk_keeps}

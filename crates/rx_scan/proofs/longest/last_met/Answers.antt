@@ -2,7 +2,7 @@ use Rattle.rx_spec.proofs.Prelude.{common_steps, ◌-◌, Err, sym, ◌∙◌, a
 use Rattle.rx_spec.specs.declared.Direction.{Direction}
 use Rattle.rx_search.proofs.Cursors.{held_by, held_row}
 use Rattle.rx_search.proofs.Walks.{Step, bytes_of, quiet}
-use Rattle.rx_all.specs.Matches.{query_at}
+use Rattle.rx_meaning.specs.AllMatches.{query_at}
 use Rattle.rx_scan.proofs.LastRows.{walk_keeps, place, quiet_on, met_on, ends_there, quits_there, met_skips}
 use Rattle.rx_scan.proofs.LastRows.{quiet_skips}
 use Rattle.rx_scan.proofs.longest.last_met.Given as given

@@ -1,7 +1,7 @@
 use Rattle.rx_spec.proofs.Prelude.{common_steps, ◌≡◌, ◌<◌, Some, sym, ◌∙◌, ap, subst, arith, length, eqb-true}
 use Rattle.rx_spec.proofs.Prelude.{false_from_ne_true, row_of, HalfMatch}
 use Rattle.rx_search.specs.Labels.{patterns_of}
-use Rattle.rx_all.specs.Matches.{told_at}
+use Rattle.rx_meaning.specs.AllMatches.{told_at}
 use Rattle.rx_scan.specs.Walks.{IsLast, kept_met}
 use Rattle.rx_scan.specs.declared.longest.MetRow.{MetRow}
 use Rattle.rx_scan.proofs.LastRows.{told}

@@ -1,5 +1,5 @@
 use Rattle.rx_spec.proofs.Prelude.{arith, common_steps}
-use Rattle.lemmas_walks.proofs.Facts.{facts_decide}
+use Rattle.rx_lemmas.proofs.Facts.{facts_decide}
 use Rattle.rx_base.proofs.looks.LookMatcher.matches.Goals as goal
 
 pub returns : goal.returns

@@ -1,6 +1,6 @@
 use Rattle.rx_spec.proofs.Prelude.{sym, subst, err_from_is_err_and, BuildFits}
 use Rattle.rx_expr.specs.Nfa.{meaning}
-use Rattle.rx_build_error.specs.Refusals.{IsRefused, TableRefused}
+use Rattle.rx_expr.specs.Refusals.{IsRefused, TableRefused}
 use Rattle.rx_determinize.specs.Begun.{IsBegun, IsBegunWith, build_in, limits_of}
 use Rattle.rx_determinize.proofs.LimitLaws.{beginning_of}
 use Rattle.rx_build.specs.Determinized.{IsDeterminized}

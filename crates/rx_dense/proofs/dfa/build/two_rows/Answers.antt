@@ -1,6 +1,6 @@
 use Rattle.rx_spec.proofs.Prelude.{common_steps, arith}
 use Rattle.rx_base.specs.ByteClasses.{alphabet_len}
-use Rattle.lemmas_tables.proofs.ClassNumbers.{stride_holds, stride_within}
+use Rattle.rx_lemmas.proofs.ClassNumbers.{stride_holds, stride_within}
 use Rattle.rx_dense.proofs.Rows.{alphabet_few, stride_few, stride_shifted}
 use Rattle.rx_dense.proofs.dfa.build.two_rows.Goals as goal
 

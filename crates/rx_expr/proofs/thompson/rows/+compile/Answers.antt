@@ -1,6 +1,6 @@
 use Rattle.rx_spec.proofs.Prelude.{common_steps, arith, ◌+◌, rows_count}
 use Rattle.rx_spec.specs.Rows as spec
-use Rattle.lemmas_walks.proofs.Rows.{copies_make, optional_makes}
+use Rattle.rx_lemmas.proofs.Rows.{copies_make, optional_makes}
 use Rattle.rx_expr.specs.Compiles.{maker}
 use Rattle.rx_expr.proofs.ExpressionRows.{maker_makes, length-counted, adds_optional, adds_no_round, adds_loop}
 use Rattle.rx_expr.proofs.ExpressionRows.{adds_no_copy, adds_copy, round_fits, adds_entered, ok_same, adds_bare}

@@ -3,7 +3,7 @@ use Rattle.rx_base.specs.Unit.{unit_number}
 use Rattle.rx_expr.specs.Nfa.{meaning}
 use Rattle.rx_powerset.specs.PowerState.{state_of}
 use Rattle.rx_powerset.proofs.Steps.{answered, decided, Parts, stepped}
-use Rattle.rx_powerset.proofs.StateBounds.{few_told}
+use Rattle.rx_lemmas.proofs.StateBounds.{few_told}
 use Rattle.rx_powerset.proofs.state.PowerState.step.Goals as goal
 
 pub returns : goal.returns

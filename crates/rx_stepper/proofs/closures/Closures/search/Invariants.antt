@@ -1,7 +1,7 @@
 use Rattle.rx_spec.proofs.Prelude.{vec_capacity, ◌≡◌, ◌+◌, ◌<◌, ◌≤◌, ◌++◌, [], length, sum_by, id_count, closure, fresh}
 use Rattle.rx_stepper.proofs.Prelude.{IfNone, graph_of, in_turn, is_met, meaning, passing_of, unmet, weight_of}
 use Rattle.std.specs.List.{AllByRecursion as Every}
-use Rattle.rx_powerset.proofs.Search.{Searching}
+use Rattle.rx_lemmas.proofs.GraphSearch.{Searching}
 use Rattle.rx_stepper.proofs.closures.Closures.search.Given as goal
 
 abbrev pub invariant-search : goal.invariant-search

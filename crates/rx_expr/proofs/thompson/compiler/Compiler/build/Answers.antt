@@ -1,5 +1,5 @@
 use Rattle.rx_spec.proofs.Prelude.{common_steps, arith, length, ◌∙◌, ap}
-use Rattle.lemmas_walks.proofs.Shallows.{nfa_shallow}
+use Rattle.rx_lemmas.proofs.Shallows.{nfa_shallow}
 use Rattle.rx_expr.specs.Compiler.{asked_by}
 use Rattle.rx_expr.specs.Compiles.{joined_count, lead_count}
 use Rattle.rx_expr.proofs.PatternRows.{length-added_patterns, length-starts}

@@ -1,2 +1,0 @@
--- which cause a refusal names
-pub mod Refusals

@@ -1,2 +1,0 @@
--- tables whose layouts can be read
-pub mod Finished

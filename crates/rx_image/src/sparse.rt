@@ -1,0 +1,7 @@
+//! Images of sparse tables.
+
+mod read;
+mod write;
+
+pub use read::SparseRead;
+pub use write::SparseWrite;
