@@ -1,6 +1,7 @@
 -- What all commands that read a script reply to one with a fault.
 use Rattle.std.specs.Prelude.{ℕ, ◌≡◌, Bool, Option, Some, None, List}
 use Rattle.rx_spec.specs.Expressions.{Expression}
+use Rattle.rx_spec.specs.Causes.{Cause}
 use Rattle.rx_plan.specs.Plans as plans
 use Rattle.rx_spec.specs.Queries.{Query, IsFit}
 use Rattle.rx_plan.specs.Plan.{plan_of}
@@ -35,7 +36,7 @@ pub data ScriptReplies (with_input : Bool) (Answers : Spelled → Reply → Type
   Answered : IsScript with_input text (λ script. Answers script reply) → ScriptReplies with_input Answers text reply
 
 -- The reply where something is built: why that is refused, or else an answer by what is built.
-pub data BuildReplies (Refused : plans.Cause → Type 0) (Fits : Type 0) (Answers : Reply → Type 0) (reply : Reply)
+pub data BuildReplies (Refused : Cause → Type 0) (Fits : Type 0) (Answers : Reply → Type 0) (reply : Reply)
     : Type 0 where
   Refused : IsRefusal Refused reply → BuildReplies Refused Fits Answers reply
   Answered : Fits → Answers reply → BuildReplies Refused Fits Answers reply

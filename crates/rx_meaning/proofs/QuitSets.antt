@@ -4,12 +4,11 @@ use Rattle.rx_spec.proofs.Prelude.{None, List, ◌∷◌, ◌++◌, map, length,
 use Rattle.rx_spec.proofs.Prelude.{Expression, mirror, Row, Maker, chained, either, choice, copies, optional, loop}
 use Rattle.rx_spec.proofs.Prelude.{repeated, compile, patterns_from, start_of_all, lead_in, nfa_of, read_as}
 use Rattle.rx_plan.specs.Plans.{Plan}
-use Rattle.rx_spec.proofs.Prelude.{is_unicode_word, or-false, contains}
+use Rattle.rx_spec.proofs.Prelude.{is_unicode_word, or-false}
 use Rattle.rx_plan.specs.Plans.{plan_build}
 use Rattle.rx_spec.specs.Classes.{looks_for_unicode_word}
 use Rattle.rx_spec.specs.declared.Direction.{Direction}
 use Rattle.std.proofs.Math.Bool.{or_comm, or_self}
-use Rattle.std.proofs.lemmas.Nat.Bits.{bit_at-zero}
 
 abbrev any_unicode : List Row → Bool
 any_unicode rows = list_any looks_for_unicode_word rows
