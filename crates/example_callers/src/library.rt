@@ -1,5 +1,4 @@
 //! The example of README.md: an expression built by calls, two tables, and a search.
-#![tactic(auto)]
 
 use rx_base::{ByteSet, Input, MatchError};
 use rx_dense::OwnedDFA;

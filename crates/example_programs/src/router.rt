@@ -1,12 +1,11 @@
 //! A router: prints for each path on standard input which routes match it whole.
 //!
-//! `example_router IMAGE`: the routes are in `data/routes.patterns`. `examples/script` and `image all le` built their
-//! table once, as the image `data/routes.image`. One walk over a path finds all routes that match, however many there
-//! are.
+//! `example_programs router IMAGE`: the routes are in `data/routes.patterns`. `examples/script` and `image all le`
+//! built their table once, as the image `data/routes.image`. One walk over a path finds all routes that match, however
+//! many there are.
 //!
 //! Each path is a line: the path, and the names of its routes. The status is 2 for wrong words, a file that isn't such
 //! an image or a search that gave up, and 3 if memory, an input or an output failed.
-#![tactic(auto)]
 
 ghost use Rattle.rx_dense.specs.Facts.{IsSoundLayout};
 
@@ -28,7 +27,7 @@ const ROUTES: [&str; 6] = ["home", "users", "user", "posts", "post", "file"];
 #[derive(Debug, Drop, Error)]
 enum Fault {
     /// The words are wrong.
-    #[error("usage: example_router IMAGE < PATHS")]
+    #[error("usage: example_programs router IMAGE < PATHS")]
     Usage,
     /// The file isn't the image of a dense table.
     #[error("{0}")]
@@ -78,14 +77,15 @@ fn route(rt: &HostRuntime, table: &OwnedDFA) -> Result<(), Fault>
 
 /// Reads the image and routes the paths that come.
 fn run(rt: &HostRuntime) -> Result<(), Fault> {
-    let file = env::args(rt)?.nth(1).ok_or(Fault::Usage)?;
+    let file = env::args(rt)?.nth(2).ok_or(Fault::Usage)?;
     let image = fs::read(rt, file.as_str())?;
     let (table, _) = DFA::<Vec<u32>>::from_bytes(rt.alloc(), &image)?;
     route(rt, &table)
 }
 
-fn main(rt: HostRuntime) -> ExitCode {
-    match run(&rt) {
+/// Runs the program.
+pub(crate) fn main(rt: &HostRuntime) -> ExitCode {
+    match run(rt) {
         Ok(()) => ExitCode::SUCCESS,
         Err(fault) => {
             let _ = eprintln!(rt; "{fault}");

@@ -1,14 +1,13 @@
 //! A lexer: writes the tokens of a source file of a small language, which comes on standard input.
 //!
-//! `example_lexer IMAGE`: the rules are in `data/lexer.patterns`, one on each line. Of two rules with matches of the
-//! same length the earlier one wins, so keywords come before names. `examples/script` and `image all le` built their
-//! table once, as the image `data/lexer.image`. The program has no expressions: it reads the image, and one loop is the
-//! lexer.
+//! `example_programs lexer IMAGE`: the rules are in `data/lexer.patterns`, one on each line. Of two rules with matches
+//! of the same length the earlier one wins, so keywords come before names. `examples/script` and `image all le` built
+//! their table once, as the image `data/lexer.image`. The program has no expressions: it reads the image, and one loop
+//! is the lexer.
 //!
 //! Each token is a line: its line and column, its kind and its text. Spaces and comments are left out. The status is 1
 //! if no rule matches at some place, 2 for wrong words, a file that isn't such an image or a table that gave up, and 3
 //! if memory, an input or an output failed.
-#![tactic(auto)]
 
 ghost use Rattle.rx_sparse.specs.Facts.{IsSoundLayout};
 
@@ -33,7 +32,7 @@ const SILENT: usize = 2;
 #[derive(Debug, Drop, Error)]
 enum Fault {
     /// The words are wrong.
-    #[error("usage: example_lexer IMAGE < SOURCE")]
+    #[error("usage: example_programs lexer IMAGE < SOURCE")]
     Usage,
     /// The file isn't the image of a sparse table.
     #[error("{0}")]
@@ -79,7 +78,7 @@ fn tell_tokens<W: Write>(out: &mut W, table: &DFA<&[u8]>, source: &[u8]) -> Resu
 
 /// Reads the image and the source, and writes the tokens.
 fn run(rt: &HostRuntime) -> Result<(), Fault> {
-    let path = env::args(rt)?.nth(1).ok_or(Fault::Usage)?;
+    let path = env::args(rt)?.nth(2).ok_or(Fault::Usage)?;
     let image = fs::read(rt, path.as_str())?;
     let mut source = Vec::new(rt.alloc());
     rt.reader().read_to_end(&mut source)?;
@@ -92,8 +91,9 @@ fn run(rt: &HostRuntime) -> Result<(), Fault> {
     Ok(())
 }
 
-fn main(rt: HostRuntime) -> ExitCode {
-    match run(&rt) {
+/// Runs the program.
+pub(crate) fn main(rt: &HostRuntime) -> ExitCode {
+    match run(rt) {
         Ok(()) => ExitCode::SUCCESS,
         Err(fault) => {
             let _ = eprintln!(rt; "{fault}");

@@ -1,12 +1,11 @@
 //! A log filter: copies the lines of standard input in which a match begins. Each match is sought after the last one.
 //!
-//! `example_log_filter IMAGE`: the filter is in `data/upgrades.script`. `image pair le` built its two tables once, as
-//! the image `data/upgrades.pair`. The text is searched whole and not line by line, so lines without a match only cost
-//! the search over them.
+//! `example_programs log_filter IMAGE`: the filter is in `data/upgrades.script`. `image pair le` built its two tables
+//! once, as the image `data/upgrades.pair`. The text is searched whole and not line by line, so lines without a match
+//! only cost the search over them.
 //!
 //! The status is 0 if a line was copied and 1 if none was, like `grep`'s, 2 for wrong words, a file that isn't such an
 //! image or a search that gave up, and 3 if memory, an input or an output failed.
-#![tactic(auto)]
 
 ghost use Rattle.std.specs.Prelude.{◌≤◌, length};
 ghost use Rattle.rx_image.specs.Tables.{AreSound};
@@ -25,7 +24,7 @@ use thiserror::Error;
 #[derive(Debug, Drop, Error)]
 enum Fault {
     /// The words are wrong.
-    #[error("usage: example_log_filter IMAGE < TEXT")]
+    #[error("usage: example_programs log_filter IMAGE < TEXT")]
     Usage,
     /// The file isn't the image of a pair.
     #[error("the file is no image of a pair of tables")]
@@ -90,7 +89,7 @@ fn filter<W: Write>(out: &mut W, tables: &Tables<'_>, text: &[u8]) -> Result<u64
 
 /// Reads the image and the text, and copies lines.
 fn run(rt: &HostRuntime) -> Result<u64, Fault> {
-    let path = env::args(rt)?.nth(1).ok_or(Fault::Usage)?;
+    let path = env::args(rt)?.nth(2).ok_or(Fault::Usage)?;
     let image = fs::read(rt, path.as_str())?;
     let mut text = Vec::new(rt.alloc());
     rt.reader().read_to_end(&mut text)?;
@@ -101,8 +100,9 @@ fn run(rt: &HostRuntime) -> Result<u64, Fault> {
     Ok(copied)
 }
 
-fn main(rt: HostRuntime) -> ExitCode {
-    match run(&rt) {
+/// Runs the program.
+pub(crate) fn main(rt: &HostRuntime) -> ExitCode {
+    match run(rt) {
         Ok(0) => ExitCode::FAILURE,
         Ok(_) => ExitCode::SUCCESS,
         Err(fault) => {

@@ -1,12 +1,12 @@
 //! An embedded searcher: reports where alarms end in a text that comes in small pieces.
 //!
-//! The table is part of the program: `image.rt` has the bytes of a sparse image, which `image all le` wrote for the
-//! patterns of `data/alarms.patterns`, and it is searched in place. Memory is taken only while the image is checked.
-//! The text goes through a buffer of 64 bytes, and a match may begin in one piece and end in another.
+//! `example_programs embedded`: the table is part of the program. `embedded/image.rt` has the bytes of a sparse image,
+//! which `image all le` wrote for the patterns of `data/alarms.patterns`, and it is searched in place. Memory is taken
+//! only while the image is checked. The text goes through a buffer of 64 bytes, and a match may begin in one piece and
+//! end in another.
 //!
 //! Each match is a line: its pattern and the offset of its end. The status is 1 if nothing matches, 2 if the image is
 //! rejected, a quit byte was read or the text has more than 2^40 bytes, and 3 if the input or the output failed.
-#![tactic(auto)]
 
 ghost use Rattle.std.specs.Prelude.{◌+◌, ◌≤◌, ◌^◌, length};
 ghost use Rattle.rx_sparse.specs.Facts.{IsSoundLayout};
@@ -27,11 +27,12 @@ const PIECE: usize = 64;
 /// The greatest length of a text in bytes.
 const MOST: u64 = 1 << 40;
 
-fn main(rt: HostRuntime) -> ExitCode {
+/// Runs the program.
+pub(crate) fn main(rt: &HostRuntime) -> ExitCode {
     let Ok((table, _)) = DFA::<&[u8]>::from_bytes(rt.alloc(), IMAGE) else {
         return ExitCode::from(2);
     };
-    match search(&rt, &table) {
+    match search(rt, &table) {
         Ok(Some(0)) => ExitCode::FAILURE,
         Ok(Some(_)) => ExitCode::SUCCESS,
         Ok(None) => ExitCode::from(2),
