@@ -3,10 +3,11 @@
 
 usage: examples/dask_filter.py PROGRAM IMAGE FILE.. [--cluster ADDRESS | --workers N] [--block BYTES]
 
-PROGRAM is the built log filter (crates/example_log_filter), and IMAGE is the image of a pair of tables. The script cuts
-each file into blocks of about BYTES bytes (64 MiB by default), always after the end of a line, so no line is cut in two.
-It sends the image once to each worker, and a worker runs PROGRAM over one block at a time. Without --cluster it starts a
-cluster of N workers (4 by default) on this machine. PROGRAM and the files must have the same paths on all machines.
+PROGRAM is the built program of crates/example_programs, whose log filter is run, and IMAGE is the image of a pair of
+tables. The script cuts each file into blocks of about BYTES bytes (64 MiB by default), always after the end of a line, so
+no line is cut in two. It sends the image once to each worker, and a worker runs the filter over one block at a time.
+Without --cluster it starts a cluster of N workers (4 by default) on this machine. PROGRAM and the files must have the
+same paths on all machines.
 
 The lines go to standard output. Needs the packages dask and distributed (Debian: python3-distributed).
 """
@@ -48,7 +49,7 @@ def filtered(block, program, image):
     with open(path, "rb") as file:
         file.seek(start)
         text = file.read(end - start)
-    done = subprocess.run([program, image_file(image)], input=text, stdout=subprocess.PIPE, check=False)
+    done = subprocess.run([program, "log_filter", image_file(image)], input=text, stdout=subprocess.PIPE, check=False)
     if done.returncode > 1:
         raise RuntimeError(f"{path} from {start} to {end}: status {done.returncode}")
     return done.stdout

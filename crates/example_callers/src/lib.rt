@@ -1,4 +1,5 @@
 //! The callers of the pages in `docs/calling`: a file for each crate, and in it the code that the crate's page shows.
+//! `library` has the code of README.md.
 #![tactic(auto)]
 
 pub mod base;
@@ -8,6 +9,7 @@ pub mod dense_image;
 pub mod equal;
 pub mod expr;
 pub mod image;
+pub mod library;
 pub mod pair;
 pub mod prefilter;
 pub mod regex;

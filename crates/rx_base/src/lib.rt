@@ -1,6 +1,6 @@
 //! The values that every crate speaks of: ids, spans and inputs, matches and errors of searches, sets of
 //! bytes and of patterns, byte classes, what is known of a neighbour, and the outside, a source of bytes
-//! and a sink for them. The counter of `rx_steps` is handed on.
+//! and a sink for them. The counter of `rx_spec` is handed on.
 //!
 //! The contract of this crate is that contracts above see these values as the numbers, sets, lists and
 //! records of the definitions: an id as its number, a [`ByteSet`] as a set of bytes, a [`Match`] as a

@@ -7,3 +7,5 @@ pub mod Pieces
 -- what the command answers, and what a run of it leaves
 pub mod Replies
 pub mod Run
+-- examples of the lines, worked by hand
+pub mod Examples

@@ -8,6 +8,7 @@
 #![tactic(auto)]
 
 mod command;
+pub mod examples;
 mod fault;
 pub mod laws;
 mod line;

@@ -58,7 +58,7 @@ IsImageOf Form.Sparse p table es order bytes = IsSparseImage p table es order by
 abbrev pub IsImage : Plan → PlanTable → List Expression → Order → List ℕ → Type 0
 IsImage p table es order bytes = IsImageOf p.form p table es order bytes
 
--- A table for all matches of some expressions tells them (`rx_all`), whatever its form.
+-- A table for all matches of some expressions tells them (`rx_meaning::all`), whatever its form.
 abbrev pub AllTablesServe : Type 0
 AllTablesServe = (p : Plan) (es : List Expression)
     → ((l : Layout) → IsDense p PlanTable.All es l → ServesAll (table_of l) (all_build p es))

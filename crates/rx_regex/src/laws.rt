@@ -32,8 +32,8 @@ pub fn image_pairs_find()
     ensures { ImagePairsFind }
 {}
 
-/// A plan's table for all matches serves the build of all matches, so the law of `rx_all` applies to it: what it
-/// reports from a place are all matches of the expressions from there.
+/// A plan's table for all matches serves the build of all matches, so the law of `rx_meaning::all` applies to it: what
+/// it reports from a place are all matches of the expressions from there.
 pub fn all_tables_serve()
     ensures { AllTablesServe }
 {}

@@ -1,2 +1,0 @@
--- examples of the lines of `feed`, worked by hand
-pub mod Examples

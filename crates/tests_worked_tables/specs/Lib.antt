@@ -1,2 +1,0 @@
--- what holds for the tables that are worked by hand
-pub mod Tables
