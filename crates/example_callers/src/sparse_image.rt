@@ -5,9 +5,9 @@ ghost use Rattle.rx_wire.specs.declared.order.Order.TheVariants.{Big};
 ghost use Rattle.rx_sparse_image.specs.Images.{text};
 
 use rx_base::Input;
+use rx_image::{SparseRead, SparseWrite};
 use rx_search::Automaton;
 use rx_sparse::DFA;
-use rx_image::{SparseRead, SparseWrite};
 use rx_wire::DeserializeError;
 use std::alloc::{AllocError, Global};
 

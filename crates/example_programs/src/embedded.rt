@@ -15,8 +15,8 @@ mod image;
 
 use image::IMAGE;
 use rx_base::Anchored;
-use rx_sparse::DFA;
 use rx_image::SparseRead;
+use rx_sparse::DFA;
 use rx_stream::{StreamEvent, StreamSearcher};
 use std::io::{self, Read};
 use std::process::ExitCode;

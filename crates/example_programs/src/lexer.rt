@@ -11,9 +11,9 @@
 
 ghost use Rattle.rx_sparse.specs.Facts.{IsSoundLayout};
 
+use rx_image::SparseRead;
 use rx_scan::{ScanEnd, Scanner, Token};
 use rx_sparse::DFA;
-use rx_image::SparseRead;
 use rx_wire::DeserializeError;
 use std::io::{self, BufWriter, Read, Write};
 use std::process::ExitCode;
