@@ -1,8 +1,8 @@
 -- The words of a plan line: what is read is spelled so, and what is spelled so is read.
-use Rattle.rx_spec.proofs.Prelude.{common_steps, ◌≡◌, ◌≢◌, ℕ, ◌<◌, Bool, true, false, not, eqb, ltb, List, [], ◌∷◌}
+use Rattle.rx_spec.proofs.Prelude.{common_steps, ◌≡◌, ◌≢◌, ℕ, ◌<◌, Bool, true, false, not, eqb, List, [], ◌∷◌}
 use Rattle.rx_spec.proofs.Prelude.{◌++◌, length, get_or, set, Option, Some, None, refl, sym, ap, subst, ◌∙◌, append-nil}
 use Rattle.rx_spec.proofs.Prelude.{arith, inl, inr, option_map, option_and_then, AllByRecursion, list_all, cases_Bool}
-use Rattle.rx_spec.proofs.Prelude.{eqb-true, ltb-true, not-true, and_parts, same_Some, none-some, get_or-set_same}
+use Rattle.rx_spec.proofs.Prelude.{eqb-true, not-true, and_parts, same_Some, none-some, get_or-set_same}
 use Rattle.rx_spec.proofs.Prelude.{get_or-set_other}
 use Rattle.std.proofs.lemmas.Bool.{both_ways}
 use Rattle.std.proofs.lemmas.List.{length-set}
@@ -14,7 +14,8 @@ use Rattle.rx_script.specs.Names.{plan_name, all_plan_names, plan_name_of, start
 use Rattle.rx_script.specs.Plans.{unplanned, name_of, chosen_by, with_word, bare_word, valued_word, with_value}
 use Rattle.rx_script.specs.Plans.{plan_word, number_of_name, place_of, unless_seen, plan_from, none_seen, plan_of}
 use Rattle.rx_script.specs.Grammar.{SpellsValue, SpellsWord, SpellsWords, AreDistinct, with_words, SpellsPlan}
-use Rattle.rx_script.proofs.Tables.{plan_name_spelled, plan_name_read, start_spelled, start_read}
+use Rattle.rx_script.proofs.Tables.{plan_name_spelled, plan_name_read, start_spelled, start_read, place_small}
+use Rattle.rx_script.proofs.Tables.{same_place}
 use Rattle.rx_script.proofs.Numbers.{number_spelled, number_read}
 use Rattle.rx_script.proofs.Bytes.{byte_spelled, byte_read}
 use Rattle.rx_script.proofs.Sets.{set_spelled, set_read}
@@ -154,11 +155,9 @@ word_read text word s = ap plan_word s.2 ∙ tail_read word s.0 s.1
 
 -- ---- what was chosen
 
-place_small : (name : PlanName) → number_of_name name < 16
-place_small name = ltb-true _ _ (of_each (λ n. ltb (number_of_name n) 16) refl name)
-
-same_place : (name other : PlanName) → number_of_name name ≡ number_of_name other → name ≡ other
-same_place name other e = grind (arith, common_steps)
+-- a mark for each name
+abbrev HasMarks : List Bool → Type 0
+HasMarks seen = length seen ≡ length all_plan_names
 
 abbrev IsUnseen : List Bool → PlanWord → Type 0
 IsUnseen seen word = get_or seen (place_of word) false ≡ false
@@ -167,6 +166,7 @@ abbrev with_seen : List Bool → PlanWord → List Bool
 with_seen seen word = set seen (place_of word) true
 
 none_is_seen : (name : PlanName) → get_or none_seen (number_of_name name) false ≡ false
+unfolding number_of_name
 none_is_seen name = not-true _ (of_each (λ n. not (get_or none_seen (number_of_name n) false)) refl name)
 
 all_unseen : (words : List PlanWord) → AllByRecursion (IsUnseen none_seen) words
@@ -174,7 +174,7 @@ all_unseen [] = tt
 all_unseen (word ∷ words) = (none_is_seen (chosen_by word), all_unseen words)
 
 -- what is unseen after a word is unseen before it, and chooses another thing
-seen_less : (seen : List Bool) (word other : PlanWord) → length seen ≡ 16 → IsUnseen (with_seen seen word) other
+seen_less : (seen : List Bool) (word other : PlanWord) → HasMarks seen → IsUnseen (with_seen seen word) other
     → (chosen_by other ≢ chosen_by word) × IsUnseen seen other
 seen_less seen word other len e =
     let place : place_of word < length seen = omega (arith, place_small (chosen_by word)) in
@@ -185,7 +185,7 @@ seen_less seen word other len e =
     let unseen = sym (get_or-set_other seen (place_of word) (place_of other) true false differ) ∙ e in
     (λ same. differ (ap number_of_name same), unseen)
 
-all_less : (seen : List Bool) (word : PlanWord) (words : List PlanWord) → length seen ≡ 16
+all_less : (seen : List Bool) (word : PlanWord) (words : List PlanWord) → HasMarks seen
     → AllByRecursion (IsUnseen (with_seen seen word)) words
     → AllByRecursion (λ other. chosen_by other ≢ chosen_by word) words × AllByRecursion (IsUnseen seen) words
 all_less seen word [] len each = (tt, tt)
@@ -226,7 +226,7 @@ record MoreWords (choices : Choices) (seen : List Bool) (texts : List (List ℕ)
       → IsRead (with_word word choices) (with_seen seen word) texts out
 
 word_in_front : {choices out : Choices} {seen : List Bool} {texts : List (List ℕ)} (text : List ℕ) (word : PlanWord)
-    → length seen ≡ 16 → plan_word text ≡ Some word → IsUnseen seen word
+    → HasMarks seen → plan_word text ≡ Some word → IsUnseen seen word
     → IsRead (with_word word choices) (with_seen seen word) texts out → IsRead choices seen (text ∷ texts) out
 word_in_front {seen = seen} text word len w unseen r =
     let less = all_less seen word r.words len r.unseen in
@@ -239,7 +239,7 @@ word_in_front {seen = seen} text word len w unseen r =
     }
 
 word_spelled_first : {choices out : Choices} {seen : List Bool} {texts : List (List ℕ)} (text : List ℕ)
-    → length seen ≡ 16 → MoreWords choices seen texts out → plan_from choices seen (text ∷ texts) ≡ Some out
+    → HasMarks seen → MoreWords choices seen texts out → plan_from choices seen (text ∷ texts) ≡ Some out
     → IsRead choices seen (text ∷ texts) out
 word_spelled_first {choices = choices} {out = out} {seen = seen} {texts = texts} text len more e =
     on (plan_word text) refl e where
@@ -251,7 +251,7 @@ word_spelled_first {choices = choices} {out = out} {seen = seen} {texts = texts}
         | inr p ↦ word_in_front text word len w p (more.are word (rw p at q))
       ]
 
-from_spelled : (choices : Choices) (seen : List Bool) (texts : List (List ℕ)) (out : Choices) → length seen ≡ 16
+from_spelled : (choices : Choices) (seen : List Bool) (texts : List (List ℕ)) (out : Choices) → HasMarks seen
     → plan_from choices seen texts ≡ Some out → IsRead choices seen texts out
 from_spelled choices seen [] out len e =
     record { words = []; spelled = tt; unseen = tt; distinct = tt; made = sym (same_Some choices out e) }

@@ -1,6 +1,8 @@
 -- Words and names: what a word names has that name, and each name is found.
 use Rattle.rx_spec.proofs.Prelude.{◌≡◌, ◌≢◌, inl, inr, ℕ, Bool, true, false, List, [], ◌∷◌, Some, refl, ap, ◌∙◌}
 use Rattle.rx_spec.proofs.Prelude.{bytes_eq, bytes_eq-Decides, cases_Bool, false_from_ne_true, same_Some}
+use Rattle.rx_spec.proofs.Prelude.{arith, ◌<◌, length, get_or, sym}
+use Rattle.std.specs.List.{position}
 use Rattle.rx_spec.specs.declared.Look.{Look}
 use Rattle.rx_spec.specs.declared.StartKind.{StartKind}
 use Rattle.rx_script.specs.declared.names.LineKind.{LineKind}
@@ -9,6 +11,7 @@ use Rattle.rx_script.specs.declared.names.PlanName.{PlanName}
 use Rattle.rx_script.specs.Names.{named, line_name, all_lines, line_kind, head_name, all_heads, head_of, look_name}
 use Rattle.rx_script.specs.Names.{all_looks, look_of, greed_name, truths, greed_of, anchored_name, anchored_of}
 use Rattle.rx_script.specs.Names.{plan_name, all_plan_names, plan_name_of, start_name, all_starts, start_of}
+use Rattle.rx_script.specs.Plans.{number_of_name}
 
 -- a word that is another, and one that isn't
 pub same_word : (word other : List ℕ) → bytes_eq word other ≡ true → word ≡ other
@@ -91,3 +94,27 @@ pub start_read : (kind : StartKind) → start_of (start_name kind) ≡ Some kind
 unfolding start_of
 start_read StartKind.Both = refl
 start_read _ = refl
+
+-- ---- each name of a plan word has a place of its own in the list
+
+abbrev pub has_name : PlanName → PlanName → Bool
+has_name name other = bytes_eq (plan_name name) (plan_name other)
+
+pub name_found : (name : PlanName) → position (has_name name) all_plan_names ≡ Some (number_of_name name)
+unfolding number_of_name
+name_found PlanName.Start = refl
+name_found _ = refl
+
+pub place_small : (name : PlanName) → number_of_name name < length all_plan_names
+unfolding number_of_name
+place_small PlanName.Start = omega arith
+place_small _ = omega arith
+
+at_its_place : (name : PlanName) → get_or all_plan_names (number_of_name name) PlanName.Start ≡ name
+unfolding number_of_name
+at_its_place PlanName.Start = refl
+at_its_place _ = refl
+
+pub same_place : (name other : PlanName) → number_of_name name ≡ number_of_name other → name ≡ other
+same_place name other e =
+    sym (at_its_place name) ∙ ap (λ (place : ℕ). get_or all_plan_names place PlanName.Start) e ∙ at_its_place other

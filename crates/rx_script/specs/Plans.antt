@@ -1,6 +1,8 @@
 -- What the words of a plan line set.
 use Rattle.std.specs.Prelude.{ℕ, Bool, true, false, List, [], ◌∷◌, Option, Some, None, option_map}
-use Rattle.std.specs.Prelude.{option_and_then, replicate, slice_index_or, slice_set}
+use Rattle.std.specs.Prelude.{option_and_then, length, replicate, slice_index_or, slice_set}
+use Rattle.std.specs.List.{position_or_len}
+use Rattle.std.specs.Str.{bytes_eq}
 use Rattle.rx_spec.specs.declared.Form.{Form}
 use Rattle.rx_plan.specs.Plan.{usual}
 use Rattle.rx_plan.specs.declared.Passage.{Passage}
@@ -8,7 +10,7 @@ use Rattle.rx_script.specs.declared.names.PlanName.{PlanName}
 use Rattle.rx_script.specs.declared.plan_words.PlanWord.{PlanWord}
 use Rattle.rx_script.specs.declared.plan_words.Choices.{Choices}
 use Rattle.rx_script.specs.Pieces.{cut}
-use Rattle.rx_script.specs.Names.{plan_name_of, start_of}
+use Rattle.rx_script.specs.Names.{plan_name, all_plan_names, plan_name_of, start_of}
 use Rattle.rx_script.specs.Tokens.{number_of, one_byte, set_of_word}
 
 -- without a plan line
@@ -94,24 +96,9 @@ plan_word word = option_and_then (with_value (cut 61 word).1) (plan_name_of (cut
 
 -- ---- the line
 
--- the number of a name
-abbrev pub number_of_name : PlanName → ℕ
-number_of_name PlanName.Start = 0
-number_of_name PlanName.Patterns = 1
-number_of_name PlanName.NoClasses = 2
-number_of_name PlanName.Quit = 3
-number_of_name PlanName.UnicodeWord = 4
-number_of_name PlanName.LineTerminator = 5
-number_of_name PlanName.NfaLimit = 6
-number_of_name PlanName.DfaLimit = 7
-number_of_name PlanName.DeterminizeLimit = 8
-number_of_name PlanName.Minimize = 9
-number_of_name PlanName.NoAccelerate = 10
-number_of_name PlanName.Mark = 11
-number_of_name PlanName.Sparse = 12
-number_of_name PlanName.Bytes = 13
-number_of_name PlanName.Pair = 14
-number_of_name PlanName.Rows = 15
+-- the number of a name: its place in the list of names
+unfoldable pub number_of_name : PlanName → ℕ
+number_of_name name = position_or_len (λ other. bytes_eq (plan_name name) (plan_name other)) all_plan_names
 
 abbrev pub place_of : PlanWord → ℕ
 place_of word = number_of_name (chosen_by word)
@@ -131,7 +118,7 @@ plan_from choices seen (text ∷ texts) =
     (plan_word text)
 
 abbrev pub none_seen : List Bool
-none_seen = replicate 16 false
+none_seen = replicate (length all_plan_names) false
 
 -- what the words after plan say
 abbrev pub plan_of : List (List ℕ) → Option Choices

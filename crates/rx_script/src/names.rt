@@ -89,7 +89,7 @@ const LOOKS: [Look; 18] = [
 
 const TRUTHS: [bool; 2] = [true, false];
 
-const PLAN_NAMES: [PlanName; 16] = [
+pub const PLAN_NAMES: [PlanName; 16] = [
     PlanName::Start,
     PlanName::Patterns,
     PlanName::NoClasses,
@@ -172,7 +172,7 @@ fn anchored_name(anchored: bool) -> &'static [u8]
     if anchored { b"yes" } else { b"no" }
 }
 
-fn plan_name(name: PlanName) -> &'static [u8]
+pub fn plan_name(name: PlanName) -> &'static [u8]
     ensures { result.now ≡ plan_name name }
 {
     match name {

@@ -1,17 +1,16 @@
 //! The words of a plan line.
 
-ghost use Rattle.std.specs.Prelude.{◌≡◌, ◌<◌, option_map};
+ghost use Rattle.std.specs.Prelude.{◌≡◌, ◌<◌, length, option_map};
+ghost use Rattle.rx_script.specs.Names.{all_plan_names};
 ghost use Rattle.rx_script.specs.Pieces.{words_left};
-ghost use Rattle.rx_script.specs.Plans.{unplanned, with_word, bare_word, valued_word, plan_word, place_of, plan_of};
+ghost use Rattle.rx_script.specs.Plans.{unplanned, chosen_by, with_word, bare_word, valued_word, plan_word};
+ghost use Rattle.rx_script.specs.Plans.{number_of_name, plan_of};
 
-use crate::names::{PlanName, plan_name_of, start_of};
+use crate::names::{PLAN_NAMES, PlanName, plan_name, plan_name_of, start_of};
 use crate::pieces::{cut, next_word};
 use crate::tokens::{number, one_byte, set};
 use rx_base::{ByteSet, StartKind};
 use rx_plan::{Form, Passage, Plan};
-
-/// The number of names of plan words.
-const NAMES: usize = 16;
 
 /// What a plan line sets: a plan, and whether the sizes of the tables are reported.
 #[derive(Drop)]
@@ -41,28 +40,39 @@ pub enum PlanWord {
     Rows,
 }
 
-/// The index of the setting that a word sets. `bytes` and `pair` set the same, so they share one.
-fn place(word: &PlanWord) -> usize
-    ensures value { result ≡ place_of word.now }
-    ensures small { result < 16 }
+/// What a word sets, by a name. `bytes` and `pair` set the same.
+fn chosen_by(word: &PlanWord) -> PlanName
+    ensures { result ≡ chosen_by word.now }
 {
     match word {
-        PlanWord::Start(_) => 0,
-        PlanWord::Patterns => 1,
-        PlanWord::NoClasses => 2,
-        PlanWord::Quit(_) => 3,
-        PlanWord::UnicodeWord => 4,
-        PlanWord::LineTerminator(_) => 5,
-        PlanWord::NfaLimit(_) => 6,
-        PlanWord::DfaLimit(_) => 7,
-        PlanWord::DeterminizeLimit(_) => 8,
-        PlanWord::Minimize => 9,
-        PlanWord::NoAccelerate => 10,
-        PlanWord::Mark => 11,
-        PlanWord::Sparse => 12,
-        PlanWord::Bytes | PlanWord::Pair => 13,
-        PlanWord::Rows => 15,
+        PlanWord::Start(_) => PlanName::Start,
+        PlanWord::Patterns => PlanName::Patterns,
+        PlanWord::NoClasses => PlanName::NoClasses,
+        PlanWord::Quit(_) => PlanName::Quit,
+        PlanWord::UnicodeWord => PlanName::UnicodeWord,
+        PlanWord::LineTerminator(_) => PlanName::LineTerminator,
+        PlanWord::NfaLimit(_) => PlanName::NfaLimit,
+        PlanWord::DfaLimit(_) => PlanName::DfaLimit,
+        PlanWord::DeterminizeLimit(_) => PlanName::DeterminizeLimit,
+        PlanWord::Minimize => PlanName::Minimize,
+        PlanWord::NoAccelerate => PlanName::NoAccelerate,
+        PlanWord::Mark => PlanName::Mark,
+        PlanWord::Sparse => PlanName::Sparse,
+        PlanWord::Bytes | PlanWord::Pair => PlanName::Bytes,
+        PlanWord::Rows => PlanName::Rows,
     }
+}
+
+/// The place of a name in the list of names, which has each name.
+#[tactic(auto, using(crate::proofs::Tables::place_small))]
+fn place(name: PlanName) -> usize
+    ensures value { result ≡ number_of_name name }
+    ensures small { result < length all_plan_names }
+{
+    PLAN_NAMES
+        .iter()
+        .position(|other| plan_name(name) == plan_name(*other))
+        .unwrap()
 }
 
 impl Choices {
@@ -154,11 +164,11 @@ pub fn plan_line(words: Option<&[u8]>) -> Option<Choices>
     ensures { result ≡ plan_of (words_left words.entry) }
 {
     let mut choices = Choices::new();
-    let mut seen = [false; NAMES];
+    let mut seen = [false; PLAN_NAMES.len()];
     let mut rest = words;
     'words: while let Some((word, after)) = next_word(rest) {
         let word = plan_word(word)?;
-        let place = place(&word);
+        let place = place(chosen_by(&word));
         if seen[place] {
             return None;
         }
