@@ -5,7 +5,6 @@
 mod checks;
 mod match_lists;
 
-pub use checks::id;
 use checks::{id_or_fail, is_routed};
 use match_lists::lists;
 use rx_base::{Anchored, ByteClassSet, ByteSet, LookMatcher, Start, StartKind, Unit};
@@ -45,7 +44,7 @@ pub fn table(
     if !is_routed(&dfa) {
         return Err(Fail::new("dead or quit leads elsewhere, or an end mark or a search to quit"));
     }
-    let matches = lists(alloc, &dfa, matches)?;
+    let matches = lists(alloc, &dfa, matches, starts)?;
     shuffle(alloc, &mut dfa, matches)?;
     Ok(dfa)
 }

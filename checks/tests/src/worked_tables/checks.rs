@@ -6,7 +6,7 @@ use rx_search::Automaton;
 use std::test::Fail;
 
 /// The id of a row.
-pub fn id(dfa: &OwnedDFA, row: usize) -> StateID {
+fn id(dfa: &OwnedDFA, row: usize) -> StateID {
     StateID::must(row << dfa.stride2())
 }
 
@@ -38,6 +38,6 @@ fn leads_to_dead(dfa: &OwnedDFA, id: StateID) -> bool {
 }
 
 /// Whether some search starts in a row.
-pub(crate) fn starts_at(dfa: &OwnedDFA, id: StateID) -> bool {
+fn starts_at(dfa: &OwnedDFA, id: StateID) -> bool {
     dfa.starts().any(|start| start.0 == id)
 }

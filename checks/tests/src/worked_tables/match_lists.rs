@@ -1,6 +1,6 @@
 //! The patterns of match rows.
 
-use crate::worked_tables::checks::{id_or_fail, starts_at};
+use crate::worked_tables::checks::id_or_fail;
 use rx_base::{PatternID, StateID};
 use rx_dense::OwnedDFA;
 use rx_search::Automaton;
@@ -8,23 +8,23 @@ use std::alloc::Global;
 use std::collections::BTreeMap;
 use std::test::Fail;
 
-/// The patterns of match rows, by the rows' ids. No search starts in these rows.
+/// The patterns of match rows, by the rows' ids. No search starts in these rows: all start in one of two others.
 pub(crate) fn lists(
     alloc: Global,
     dfa: &OwnedDFA,
     rows: &[(usize, &[u32])],
+    starts: [usize; 2],
 ) -> Result<BTreeMap<StateID, Vec<PatternID>>, Fail> {
     let mut lists = BTreeMap::new(alloc);
     for (row, patterns) in rows {
         if *row < 2 {
             return Err(Fail::new("dead or quit is a match row"));
         }
-        let id = id_or_fail(dfa, *row)?;
-        if starts_at(dfa, id) {
+        if starts.contains(row) {
             return Err(Fail::new("a search starts in a match row"));
         }
         let list = list(alloc, dfa, patterns)?;
-        lists.insert(id, list)?;
+        lists.insert(id_or_fail(dfa, *row)?, list)?;
     }
     Ok(lists)
 }
